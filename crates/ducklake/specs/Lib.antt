@@ -1,0 +1,12 @@
+pub mod Arguments
+pub mod Calls
+pub mod Claim
+pub mod Commits
+pub mod Journal
+pub mod Kinds
+pub mod Liveness
+pub mod Maintenance
+pub mod Paths
+pub mod Readings
+pub mod Refusals
+pub mod Soundness

@@ -1,0 +1,6 @@
+pub mod Names
+pub mod Padding
+pub mod Records
+pub mod Room
+pub mod RoundTrip
+pub mod Types

@@ -1,0 +1,24 @@
+use borrow.Author.Needs.{needs}
+use native.Mathlib.Nat.{add-zero}
+use lib.Seq.{getD-drop}
+use Rattle.layout.specs.Records.{readDeleteFile}
+use Rattle.layout.proofs.record.delete_file_at.Statement.{statement}
+use Rattle.layout.proofs.record.delete_file_at.Tie as tie
+
+returns : tie.Need-returns
+unfolding readDeleteFile
+returns c = simp (getD-drop, add-zero)
+
+pub delete-file-at-spec : {M : Type 1} → statement M
+delete-file-at-spec =
+    tie.close
+    (tie.spec
+    (λ c. search needs) (λ c. search needs) (λ c. search needs)
+    (λ c. search needs) (λ c. search needs) (λ c. search needs)
+    (λ c. search needs) (λ c. search needs) (λ c. search needs)
+    (λ c. search needs) (λ c. search needs) (λ c. search needs)
+    (λ c. search needs) (λ c. search needs) (λ c. search needs)
+    (λ c. search needs) (λ c. search needs) (λ c. search needs)
+    (λ c. search needs) (λ c. search needs) (λ c. search needs)
+    (λ c. search needs) (λ c. search needs) (λ c. search needs)
+    returns)

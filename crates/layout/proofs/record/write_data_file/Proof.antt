@@ -1,0 +1,28 @@
+use Prim.Native.Nat.{_*_}
+use borrow.Author.Needs.{needs}
+use native.Mathlib.Numerals.{towards-suc}
+use native.Mathlib.Omega.{arith}
+use lib.ListN.{length-set}
+use Rattle.lists.proofs.Runs.{overwrite-sets}
+use Rattle.layout.specs.Records.{dataFileWords}
+use Rattle.layout.proofs.record.write_data_file.Statement.{statement}
+use Rattle.layout.proofs.record.write_data_file.Tie as tie
+
+returns : tie.Need-returns
+unfolding dataFileWords
+returns c = simp towards-suc (overwrite-sets (c .args .w .now) (8 * c .args .i) (dataFileWords (c .args .r)) (c .pre))
+
+pub write-data-file-spec : {M : Type 1} → statement M
+write-data-file-spec =
+    tie.close
+    (tie.spec
+    (λ c. search needs) (λ c. search needs) (λ c. search needs)
+    (λ c. search needs) (λ c. search needs) (λ c. simp length-set (omega arith))
+    (λ c. search needs) (λ c. search needs) (λ c. simp length-set (omega arith))
+    (λ c. search needs) (λ c. search needs) (λ c. simp length-set (omega arith))
+    (λ c. search needs) (λ c. search needs) (λ c. simp length-set (omega arith))
+    (λ c. search needs) (λ c. search needs) (λ c. simp length-set (omega arith))
+    (λ c. search needs) (λ c. search needs) (λ c. simp length-set (omega arith))
+    (λ c. search needs) (λ c. search needs) (λ c. simp length-set (omega arith))
+    (λ c. search needs)
+    returns)

@@ -1,0 +1,23 @@
+use Prim.Native.Nat.{_*_}
+use borrow.Author.Needs.{needs}
+use native.Mathlib.Numerals.{towards-suc}
+use native.Mathlib.Omega.{arith}
+use lib.ListN.{length-set}
+use Rattle.lists.proofs.Runs.{overwrite-sets}
+use Rattle.layout.specs.Records.{schemaWords}
+use Rattle.layout.proofs.record.write_schema.Statement.{statement}
+use Rattle.layout.proofs.record.write_schema.Tie as tie
+
+returns : tie.Need-returns
+unfolding schemaWords
+returns c = simp towards-suc (overwrite-sets (c .args .w .now) (3 * c .args .i) (schemaWords (c .args .r)) (c .pre))
+
+pub write-schema-spec : {M : Type 1} → statement M
+write-schema-spec =
+    tie.close
+    (tie.spec
+    (λ c. search needs) (λ c. search needs) (λ c. search needs)
+    (λ c. search needs) (λ c. search needs) (λ c. simp length-set (omega arith))
+    (λ c. search needs) (λ c. search needs) (λ c. simp length-set (omega arith))
+    (λ c. search needs)
+    returns)

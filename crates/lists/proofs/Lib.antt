@@ -1,0 +1,12 @@
+pub mod Counts
+pub mod Keys
+pub mod Layouts
+pub mod Loops
+pub mod Members
+pub mod Orders
+pub mod Pieces
+pub mod Runs
+pub mod Search
+pub mod Selections
+pub mod Tests
+pub mod Windows

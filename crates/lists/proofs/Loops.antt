@@ -1,0 +1,222 @@
+-- Loops: what each comes to from the present turn on. The laws `-start`, `-pass`, `-fail`, `-next`, `-end` are cited at a function's needs.
+use Prim.Native.Nat.{ℕ, zero, suc, _+_, _*_, _-_, _≤_, _<_, max}
+use mathlib.Core.Path.{_≡_, refl, sym, ap, ap₂, _∙_}
+use mathlib.Core.List.{List, [], _∷_, _++_, map, flatMap, append-assoc, append-nil}
+use mathlib.Core.Bool.{Bool, true, false, cond, not, _&&_, _||_}
+use native.Mathlib.Omega.{arith}
+use native.Mathlib.Numerals.{add-one}
+use native.Mathlib.Nat.{mul-zero, mul-le-mul-left, mul-suc, add-zero, add-suc, zero-add, suc-add}
+use lib.ListN.{length, take, drop, set, replicate, length-map}
+use Rattle.lists.specs.Lists.{range, all, pairwise, chained, filter}
+use Rattle.lists.specs.Runs.{from, overwrite, replace, Layout, at, table}
+use Rattle.lists.proofs.Runs.{overwrite-none, overwrite-set, overwrite-front, overwrite-over, overwrite-same, replace-same, replace-less, replace-past, record-fits}
+use Rattle.lists.proofs.Layouts.{Lawful, words-of-length, words-at, from-past}
+
+pub length-range : (i k : ℕ) → length (range i k) ≡ k
+unfolding range
+length-range i zero = refl
+length-range i (suc k) = ap suc (length-range (suc i) k)
+
+chained-short : {A : Type 0} (r : A → A → Bool) (xs : List A) → length xs ≤ 1 → chained r xs ≡ true
+unfolding chained
+chained-short r [] h = refl
+chained-short r (x ∷ []) h = refl
+chained-short r (x ∷ (y ∷ ys)) h = absurd (omega arith)
+
+module _ {A : Type 0} (f : ℕ → A) where
+  pub from-step : (i n : ℕ) → i < n → from f i n ≡ f i ∷ from f (i + 1) n
+  unfolding range
+  from-step i n h = rw (add-one, left-over) refl
+    where
+      left-over : n - i ≡ suc (n - suc i)
+      left-over = omega arith
+
+  pub from-end : (i n : ℕ) → n ≤ i → from f i n ≡ []
+  unfolding range
+  from-end i n h = rw left-over refl
+    where
+      left-over : n - i ≡ 0
+      left-over = omega arith
+
+  pub from-all : (n : ℕ) → map f (range 0 n) ≡ from f 0 n
+  unfolding range
+  from-all n = rw whole refl
+    where
+      whole : n - 0 ≡ n
+      whole = omega arith
+
+  module _ (p : A → Bool) where
+    pub all-pass : (i n : ℕ) → i < n → p (f i) ≡ true → all p (from f i n) ≡ all p (from f (i + 1) n)
+    unfolding all
+    all-pass i n h e = rw (from-step i n h, e) refl
+
+    pub all-fail : (i n : ℕ) → i < n → p (f i) ≡ false → all p (from f i n) ≡ false
+    unfolding all
+    all-fail i n h e = rw (from-step i n h, e) refl
+
+    pub all-end : (i n : ℕ) → n ≤ i → all p (from f i n) ≡ true
+    unfolding all
+    all-end i n h = rw (from-end i n h) refl
+
+    pub filter-pass : (i n : ℕ) → i < n → p (f i) ≡ true → filter p (from f i n) ≡ f i ∷ filter p (from f (i + 1) n)
+    unfolding filter
+    filter-pass i n h e = rw (from-step i n h, e) refl
+
+    pub filter-fail : (i n : ℕ) → i < n → p (f i) ≡ false → filter p (from f i n) ≡ filter p (from f (i + 1) n)
+    unfolding filter
+    filter-fail i n h e = rw (from-step i n h, e) refl
+
+    pub filter-end : (i n : ℕ) → n ≤ i → filter p (from f i n) ≡ []
+    unfolding filter
+    filter-end i n h = rw (from-end i n h) refl
+
+  module _ (r : A → A → Bool) where
+    pub chained-pass : (i n : ℕ) → i + 1 < n → r (f i) (f (i + 1)) ≡ true → chained r (from f i n) ≡ chained r (from f (i + 1) n)
+    unfolding chained
+    chained-pass i n h e = rw (from-step i n (omega arith), from-step (i + 1) n h, e) refl
+
+    pub chained-fail : (i n : ℕ) → i + 1 < n → r (f i) (f (i + 1)) ≡ false → chained r (from f i n) ≡ false
+    unfolding chained
+    chained-fail i n h e = rw (from-step i n (omega arith), from-step (i + 1) n h, e) refl
+
+    pub pairwise-pass : (i n : ℕ) → i < n → all (r (f i)) (from f (i + 1) n) ≡ true → pairwise r (from f i n) ≡ pairwise r (from f (i + 1) n)
+    unfolding all pairwise
+    pairwise-pass i n h e = rw (from-step i n h, e) refl
+
+    pub pairwise-fail : (i n : ℕ) → i < n → all (r (f i)) (from f (i + 1) n) ≡ false → pairwise r (from f i n) ≡ false
+    unfolding all pairwise
+    pairwise-fail i n h e = rw (from-step i n h, e) refl
+
+    pub pairwise-end : (i n : ℕ) → n ≤ i → pairwise r (from f i n) ≡ true
+    unfolding pairwise
+    pairwise-end i n h = rw (from-end i n h) refl
+
+    pub chained-end : (i n : ℕ) → n ≤ i + 1 → chained r (from f i n) ≡ true
+    unfolding chained
+    chained-end i n h = chained-short r (from f i n) (rw (length-map, length-range) (omega arith))
+
+-- a loop that clears the words from j up to e
+pub clear-next : (w : List ℕ) (j e : ℕ) → j < e → e ≤ length w → overwrite w j (replicate (e - j) 0) ≡ overwrite (set w j 0) (j + 1) (replicate (e - (j + 1)) 0)
+clear-next w j e h g = rw left-over (overwrite-set w j 0 (replicate (e - (j + 1)) 0) (omega arith))
+  where
+    left-over : e - j ≡ suc (e - (j + 1))
+    left-over = omega arith
+
+pub clear-end : (w : List ℕ) (j e : ℕ) → e ≤ j → overwrite w j (replicate (e - j) 0) ≡ w
+clear-end w j e h = rw left-over (overwrite-none w j)
+  where
+    left-over : e - j ≡ 0
+    left-over = omega arith
+
+-- a loop that counts the elements that pass p, and one that writes what g makes of each: what it comes to from the turn i on
+module _ {A : Type 0} (f : ℕ → A) (p : A → Bool) (n : ℕ) where
+  pub counted : ℕ → ℕ → ℕ
+  unfolding filter
+  counted k i = k + length (filter p (from f i n))
+
+  pub counted-start : length (filter p (map f (range 0 n))) ≡ counted 0 0
+  unfolding counted range filter
+  counted-start = rw (zero-add, from-all f n) refl
+
+  pub counted-pass : (k i : ℕ) → i < n → p (f i) ≡ true → counted k i ≡ counted (k + 1) (i + 1)
+  unfolding counted
+  counted-pass k i h e = rw (filter-pass f p i n h e) (omega arith)
+
+  pub counted-fail : (k i : ℕ) → i < n → p (f i) ≡ false → counted k i ≡ counted k (i + 1)
+  unfolding counted
+  counted-fail k i h e = rw (filter-fail f p i n h e) refl
+
+  pub counted-end : (k i : ℕ) → n ≤ i → counted k i ≡ k
+  unfolding counted
+  counted-end k i h = rw (filter-end f p i n h, add-zero) refl
+
+  pub counted-least : (k i : ℕ) → k ≤ counted k i
+  unfolding counted
+  counted-least k i = omega arith
+
+  pub counted-room : (m k i : ℕ) → m ≡ counted k i → i < n → p (f i) ≡ true → k < m
+  counted-room m k i c h e = omega (arith, counted-pass k i h e, counted-least (k + 1) (i + 1))
+
+  module _ (g : A → ℕ) where
+    pub sent : List ℕ → ℕ → ℕ → List ℕ
+    unfolding filter
+    sent out k i = overwrite out k (map g (filter p (from f i n)))
+
+    pub sent-start : (out : List ℕ) → overwrite out 0 (map g (filter p (map f (range 0 n)))) ≡ sent out 0 0
+    unfolding sent range filter
+    sent-start out = rw (from-all f n) refl
+
+    pub sent-pass : (out : List ℕ) (k i x : ℕ) → k < length out → i < n → p (f i) ≡ true → x ≡ g (f i) → sent out k i ≡ sent (set out k x) (k + 1) (i + 1)
+    unfolding sent filter
+    sent-pass out k i x l h e q = rw (q, filter-pass f p i n h e) (overwrite-set out k (g (f i)) (map g (filter p (from f (i + 1) n))) l)
+
+    pub sent-fail : (out : List ℕ) (k i : ℕ) → i < n → p (f i) ≡ false → sent out k i ≡ sent out k (i + 1)
+    unfolding sent
+    sent-fail out k i h e = rw (filter-fail f p i n h e) refl
+
+    pub sent-end : (out : List ℕ) (k i : ℕ) → n ≤ i → sent out k i ≡ out
+    unfolding sent
+    sent-end out k i h = rw (filter-end f p i n h) (overwrite-none out k)
+
+module _ {A : Type 0} (L : Layout A) (F : Lawful L) where
+  -- a loop that writes each record anew in its place: what the run comes to from the turn i on
+  module _ (g : A → A) (n : ℕ) where
+    pub mapped : List ℕ → ℕ → List ℕ
+    mapped w i = overwrite w (L .size * i) (flatMap (L .words) (map g (from (at L w) i n)))
+
+    pub mapped-start : (w : List ℕ) → L .size * n ≤ length w → replace w (L .size * n) (flatMap (L .words) (map g (table L w n))) ≡ mapped w 0
+    unfolding mapped
+    mapped-start w h = rw (mul-zero, ← from-all (at L w) n) (replace-same w _ _ (rw (words-of-length L F, length-map, length-map, length-range) refl))
+
+    pub mapped-next : (w v : List ℕ) (i : ℕ) → i < n → L .size * n ≤ length w → v ≡ overwrite w (L .size * i) (L .words (g (at L w i)))
+        → mapped w i ≡ mapped v (i + 1)
+    unfolding flatMap mapped
+    mapped-next w v i h s e =
+        let m : L .size * i + L .size ≤ length w = record-fits (L .size) h s in
+        let l : length (L .words (g (at L w i))) ≡ L .size = F .words-length _ in
+        rw (e, from-step (at L w) i n h, overwrite-over w (L .size * i) (L .words (g (at L w i))) _ (omega arith), from-past L F w (L .size * i) (L .words (g (at L w i))) (i + 1) n (omega arith) (omega arith), l, add-one, mul-suc) refl
+
+    pub mapped-skip : (w : List ℕ) (i : ℕ) → i < n → L .size * n ≤ length w → g (at L w i) ≡ at L w i → mapped w i ≡ mapped w (i + 1)
+    unfolding flatMap mapped
+    mapped-skip w i h s e = rw (from-step (at L w) i n h, e, words-at L F w i (record-fits (L .size) h s), overwrite-same w (L .size * i) (L .size) _ (record-fits (L .size) h s), add-one, mul-suc) refl
+
+    pub mapped-end : (w : List ℕ) (i : ℕ) → n ≤ i → mapped w i ≡ w
+    unfolding flatMap mapped
+    mapped-end w i h = rw (from-end (at L w) i n h) (overwrite-none w _)
+
+  -- a loop that keeps the records that pass p, closing the gaps: what the run and the left-over come to from the turn i on, with k kept
+  module _ (p : A → Bool) (n : ℕ) where
+    pub kept : List ℕ → ℕ → ℕ → List ℕ × ℕ
+    unfolding filter
+    kept w k i =
+        (replace w (L .size * n) (take (L .size * k) w ++ flatMap (L .words) (filter p (from (at L w) i n))), k + length (filter p (from (at L w) i n)))
+
+    pub kept-start : (w : List ℕ) → _≡_ {A = List ℕ × ℕ} (replace w (L .size * n) (flatMap (L .words) (filter p (table L w n))), length (filter p (table L w n))) (kept w 0 0)
+    unfolding kept filter
+    kept-start w = rw (mul-zero, zero-add, from-all (at L w) n) refl
+
+    pub kept-pass : (w v : List ℕ) (k i : ℕ) → k ≤ i → i < n → L .size * n ≤ length w → p (at L w i) ≡ true
+        → v ≡ overwrite w (L .size * k) (L .words (at L w i)) → kept w k i ≡ kept v (k + 1) (i + 1)
+    unfolding flatMap kept
+    kept-pass w v k i g h s t e =
+        let l : length (L .words (at L w i)) ≡ L .size = F .words-length _ in
+        let r : L .size * k + L .size ≤ L .size * (i + 1) = omega (arith, mul-le-mul-left (L .size) g) in
+        let m : L .size * (i + 1) ≤ L .size * n = omega (arith, mul-le-mul-left (L .size) h) in
+        let f : take (L .size * (k + 1)) (overwrite w (L .size * k) (L .words (at L w i))) ≡ take (L .size * k) w ++ L .words (at L w i)
+        = rw (add-one, mul-suc) (rw l at (overwrite-front w (L .size * k) (L .words (at L w i)) (omega arith))) in
+        rw (
+          e,
+          filter-pass (at L w) p i n h t,
+          from-past L F w (L .size * k) (L .words (at L w i)) (i + 1) n (omega arith) (omega arith),
+          f,
+          replace-past w (L .size * k) (L .words (at L w i)) _ (L .size * n) (omega arith) (omega arith),
+        ) (rw (append-assoc, add-one k, suc-add k, add-suc k) refl)
+
+    pub kept-fail : (w : List ℕ) (k i : ℕ) → i < n → p (at L w i) ≡ false → kept w k i ≡ kept w k (i + 1)
+    unfolding flatMap kept
+    kept-fail w k i h t = rw (filter-fail (at L w) p i n h t) refl
+
+    pub kept-end : (w : List ℕ) (k i : ℕ) → n ≤ i → k ≤ n → L .size * n ≤ length w
+        → kept w k i ≡ (overwrite w (L .size * k) (replicate (L .size * n - L .size * k) 0), k)
+    unfolding flatMap kept
+    kept-end w k i h g s = rw (filter-end (at L w) p i n h, append-nil, replace-less w (L .size * n) (L .size * k) (mul-le-mul-left (L .size) g) s, add-zero) refl
