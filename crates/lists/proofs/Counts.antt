@@ -6,6 +6,7 @@ use mathlib.Core.List.{List, [], _∷_, _++_, map}
 use mathlib.Core.Bool.{Bool, true, false, cond, not, _&&_, and-true, and-false, true≢false}
 use native.Mathlib.Omega.{arith}
 use lib.Dec.{leb, ltb, eqb}
+use lib.ListN.{length}
 use borrow.Author.Tests.{ltb-true, ltb-false, eqb-true, eqb-false, lt-ltb, le-ltb, eq-eqb, ne-eqb}
 use Rattle.lists.specs.Lists.{range, all, any, pairwise, filter, has, bit, count, insertBy, sortBy}
 use Rattle.lists.proofs.Tests.{Reflects, if, either, clash, both, and}
@@ -49,6 +50,16 @@ pub count-sort : {A : Type 0} (p : A → Bool) (key : A → ℕ) (xs : List A) �
 unfolding count sortBy
 count-sort p key [] = refl
 count-sort p key (x ∷ xs) = rw (count-insert p key x (sortBy key xs), count-sort p key xs)
+
+pub count-most : {A : Type 0} (p : A → Bool) (xs : List A) → count p xs ≤ length xs
+unfolding count
+count-most p [] = omega arith
+count-most p (x ∷ xs) = if (p x) (λ e. rw e (omega (arith, count-most p xs))) (λ e. rw e (omega (arith, count-most p xs)))
+
+pub count-whole : {A : Type 0} (p : A → Bool) (xs : List A) → ((x : A) → In x xs → p x ≡ true) → count p xs ≡ length xs
+unfolding count
+count-whole p [] h = refl
+count-whole p (x ∷ xs) h = rw (h x (here refl), count-whole p xs (λ y m. h y (next m))) (omega arith)
 
 -- no element twice, by a test that tells equality
 module _ {A : Type 0} (same : A → A → Bool) (tells : (a b : A) → Reflects (same a b) (a ≡ b)) where

@@ -5,6 +5,7 @@ pub mod Loops
 pub mod Members
 pub mod Orders
 pub mod Pieces
+pub mod Places
 pub mod Runs
 pub mod Search
 pub mod Selections

@@ -7,7 +7,8 @@ use native.Mathlib.Omega.{arith}
 use native.Mathlib.Numerals.{add-one}
 use native.Mathlib.Nat.{mul-zero, mul-le-mul-left, mul-suc, add-zero, add-suc, zero-add, suc-add}
 use lib.ListN.{length, take, drop, set, replicate, length-map}
-use Rattle.lists.specs.Lists.{range, all, pairwise, chained, filter}
+use Rattle.lists.specs.Lists.{range, all, pairwise, chained, filter, place}
+use Rattle.lists.specs.declared.Found.the-variants.{At, Nothing}
 use Rattle.lists.specs.Runs.{from, overwrite, replace, Layout, at, table}
 use Rattle.lists.proofs.Runs.{overwrite-none, overwrite-set, overwrite-front, overwrite-over, overwrite-same, replace-same, replace-less, replace-past, record-fits}
 use Rattle.lists.proofs.Layouts.{Lawful, words-of-length, words-at, from-past}
@@ -45,7 +46,13 @@ module _ {A : Type 0} (f : ℕ → A) where
       whole : n - 0 ≡ n
       whole = omega arith
 
+  pub from-length : (i n : ℕ) → length (from f i n) ≡ n - i
+  from-length i n = rw (length-map, length-range) refl
+
   module _ (p : A → Bool) where
+    pub all-start : (n : ℕ) → all p (map f (range 0 n)) ≡ all p (from f 0 n)
+    all-start n = ap (all p) (from-all n)
+
     pub all-pass : (i n : ℕ) → i < n → p (f i) ≡ true → all p (from f i n) ≡ all p (from f (i + 1) n)
     unfolding all
     all-pass i n h e = rw (from-step i n h, e) refl
@@ -70,7 +77,25 @@ module _ {A : Type 0} (f : ℕ → A) where
     unfolding filter
     filter-end i n h = rw (from-end i n h) refl
 
+    pub place-start : (n : ℕ) → place p 0 (map f (range 0 n)) ≡ place p 0 (from f 0 n)
+    place-start n = ap (place p 0) (from-all n)
+
+    pub place-hit : (i n : ℕ) → i < n → p (f i) ≡ true → place p i (from f i n) ≡ At i
+    unfolding place
+    place-hit i n h e = rw (from-step i n h, e) refl
+
+    pub place-miss : (i n : ℕ) → i < n → p (f i) ≡ false → place p i (from f i n) ≡ place p (i + 1) (from f (i + 1) n)
+    unfolding place
+    place-miss i n h e = rw (from-step i n h, e, add-one) refl
+
+    pub place-end : (i n : ℕ) → n ≤ i → place p i (from f i n) ≡ Nothing
+    unfolding place
+    place-end i n h = rw (from-end i n h) refl
+
   module _ (r : A → A → Bool) where
+    pub chained-start : (n : ℕ) → chained r (map f (range 0 n)) ≡ chained r (from f 0 n)
+    chained-start n = ap (chained r) (from-all n)
+
     pub chained-pass : (i n : ℕ) → i + 1 < n → r (f i) (f (i + 1)) ≡ true → chained r (from f i n) ≡ chained r (from f (i + 1) n)
     unfolding chained
     chained-pass i n h e = rw (from-step i n (omega arith), from-step (i + 1) n h, e) refl
@@ -78,6 +103,9 @@ module _ {A : Type 0} (f : ℕ → A) where
     pub chained-fail : (i n : ℕ) → i + 1 < n → r (f i) (f (i + 1)) ≡ false → chained r (from f i n) ≡ false
     unfolding chained
     chained-fail i n h e = rw (from-step i n (omega arith), from-step (i + 1) n h, e) refl
+
+    pub pairwise-start : (n : ℕ) → pairwise r (map f (range 0 n)) ≡ pairwise r (from f 0 n)
+    pairwise-start n = ap (pairwise r) (from-all n)
 
     pub pairwise-pass : (i n : ℕ) → i < n → all (r (f i)) (from f (i + 1) n) ≡ true → pairwise r (from f i n) ≡ pairwise r (from f (i + 1) n)
     unfolding all pairwise

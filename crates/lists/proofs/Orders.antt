@@ -32,6 +32,19 @@ pairwise-chained r (x ∷ (y ∷ ys)) e =
     let k = both (all (r x) (y ∷ ys)) (pairwise r (y ∷ ys)) e in
     and (both (r x y) (all (r x) ys) (k .0) .0) (pairwise-chained r (y ∷ ys) (k .1))
 
+-- neighbours that stand in r stand in s
+pub chained-as : {A : Type 0} (r s : A → A → Bool) → ((a b : A) → r a b ≡ true → s a b ≡ true) → (xs : List A) → chained r xs ≡ true → chained s xs ≡ true
+unfolding chained
+chained-as r s h [] e = refl
+chained-as r s h (x ∷ []) e = refl
+chained-as r s h (x ∷ (y ∷ ys)) e = let k = both (r x y) (chained r (y ∷ ys)) e in and (h x y (k .0)) (chained-as r s h (y ∷ ys) (k .1))
+
+pub chained-map : {A B : Type 0} (r : B → B → Bool) (f : A → B) (xs : List A) → chained r (map f xs) ≡ chained (λ a b. r (f a) (f b)) xs
+unfolding chained
+chained-map r f [] = refl
+chained-map r f (x ∷ []) = refl
+chained-map r f (x ∷ (y ∷ ys)) = ap (λ b. r (f x) (f y) && b) (chained-map r f (y ∷ ys))
+
 pub reflects-chained : {A : Type 0} {r : A → A → Bool} {R : A → A → Type 0} → ((x y : A) → Reflects (r x y) (R x y))
     → ((a b c : A) → R a b → R b c → R a c) → (xs : List A) → Reflects (chained r xs) (Pairwise R xs)
 unfolding chained

@@ -4,7 +4,7 @@ use mathlib.Core.Path.{_≡_, refl, sym, ap, _∙_}
 use mathlib.Core.List.{List, [], _∷_, _++_, append-assoc, append-nil}
 use native.Mathlib.Omega.{arith}
 use native.Mathlib.Numerals.{add-one}
-use native.Mathlib.Nat.{add-zero, add-suc, zero-add, suc-add, mul-le-mul-left}
+use native.Mathlib.Nat.{add-zero, add-suc, zero-add, suc-add, mul-le-mul-left, mul-le-mul-right}
 use lib.ListN.{length, take, drop, set, replicate, length-append, length-take, length-drop, length-replicate, take-append-drop}
 use lib.Seq.{take-suc-set, drop-set-lt, take-at, drop-at, drop-drop, length-take-le, take-add, sets, sets-eq}
 use Rattle.lists.specs.Runs.{overwrite, replace}
@@ -115,3 +115,7 @@ replace-length old used new h g = simp (length-append, length-replicate, length-
 -- a record before the n-th lies in a run that holds n records
 pub record-fits : (size : ℕ) {i n m : ℕ} → i < n → size * n ≤ m → size * i + size ≤ m
 record-fits size h g = omega (arith, mul-le-mul-left size h)
+
+-- a run that holds n records has n words or more
+pub count-fits : (size : ℕ) {at n m : ℕ} → at < size → size * n ≤ m → n ≤ m
+count-fits size {n = n} h e = omega (arith, mul-le-mul-right n h)

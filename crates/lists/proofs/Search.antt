@@ -1,4 +1,4 @@
--- Ascending keys, and a search by halves for one of them.
+-- Words that ascend: how many are below a number, and where a number stands among them.
 use Prim.Native.Nat.{ℕ, zero, suc, _+_, _-_, _≤_, _<_}
 use mathlib.Core.Path.{_≡_, refl, sym, ap, _∙_, subst}
 use mathlib.Core.Logic.{⊎-elim}
@@ -6,96 +6,125 @@ use mathlib.Core.List.{List, map}
 use mathlib.Core.Bool.{Bool, true, false, cond, _&&_}
 use native.Mathlib.Omega.{arith}
 use native.Mathlib.Numerals.{add-one}
-use native.Mathlib.Nat.{eq-or-lt-of-le}
-use borrow.Author.Tests.{lt-ltb, ltb-true, eq-eqb, ne-eqb}
-use lib.Dec.{ltb, eqb}
+use native.Mathlib.Nat.{eq-or-lt-of-le, zero-add}
+use borrow.Author.Tests.{lt-ltb, le-ltb, le-leb, ltb-true, ltb-false, leb-true, leb-false, eq-eqb, eqb-true, ne-eqb}
+use lib.Dec.{leb, ltb, eqb}
+use lib.ListN.{length}
 use Rattle.lists.specs.declared.Found.{Found}
 use Rattle.lists.specs.declared.Found.the-variants.{At, Nothing}
-use Rattle.lists.specs.Lists.{range, all, pairwise, chained, place}
+use Rattle.lists.specs.Lists.{range, all, any, pairwise, chained, count, place}
 use Rattle.lists.specs.Runs.{from}
-use Rattle.lists.proofs.Tests.{both}
-use Rattle.lists.proofs.Orders.{chained-pairwise}
-use Rattle.lists.proofs.Loops.{from-step, from-end, from-all}
+use Rattle.lists.proofs.Tests.{if, both, and, same-test}
+use Rattle.lists.proofs.Members.{any-in, in-any, in-map, in-map-of, in-range, range-in}
+use Rattle.lists.proofs.Orders.{chained-pairwise, chained-as}
+use Rattle.lists.proofs.Loops.{from-length, from-end, from-all}
+use Rattle.lists.proofs.Counts.{count-append, count-zero, count-whole, count-most}
+use Rattle.lists.proofs.Places.{from-split, in-from, pairwise-at, place-first, place-nowhere, found-tells}
 
-ltb-trans : (a b c : ℕ) → ltb a b ≡ true → ltb b c ≡ true → ltb a c ≡ true
-ltb-trans a b c s t = lt-ltb a c (omega (arith, ltb-true a b s, ltb-true b c t))
+-- numbers in order by their neighbours are in order
+module _ (f : ℕ → ℕ) (n : ℕ) where
+  pub ascending : chained ltb (map f (range 0 n)) ≡ true → (j l : ℕ) → j < l → l < n → f j < f l
+  ascending e j l h m =
+      ltb-true _ _ (pairwise-at f ltb n j l (chained-pairwise ltb _ (λ a b c s t. lt-ltb a c (omega (arith, ltb-true a b s, ltb-true b c t))) e) h m)
 
-module _ {A : Type 0} (f : ℕ → A) where
-  -- what holds of every place holds of each
-  all-range : (q : A → Bool) (k i l : ℕ) → all q (map f (range i k)) ≡ true → i ≤ l → l < i + k → q (f l) ≡ true
-  unfolding range all
-  all-range q zero i l e g h = absurd (omega arith)
-  all-range q (suc k) i l e g h =
-      ⊎-elim (λ (s : i ≡ l). subst (λ (m : ℕ). q (f m) ≡ true) s (both (q (f i)) (all q (map f (range (suc i) k))) e .0))
-      (λ (s : i < l). all-range q k (suc i) l (both (q (f i)) (all q (map f (range (suc i) k))) e .1) s (omega arith)) (eq-or-lt-of-le g)
+  pub ascending-one : chained ltb (map f (range 0 n)) ≡ true → (i j : ℕ) → i < n → j < n → f i ≡ f j → i ≡ j
+  ascending-one e i j h k s =
+      if (ltb i j) (λ a. absurd (omega (arith, ascending e i j (ltb-true i j a) k)))
+      (λ a. if (ltb j i) (λ b. absurd (omega (arith, ascending e j i (ltb-true j i b) h))) (λ b. omega (arith, ltb-false i j a, ltb-false j i b)))
 
-  pairwise-range : (r : A → A → Bool) (k i j l : ℕ) → pairwise r (map f (range i k)) ≡ true → i ≤ j → j < l → l < i + k → r (f j) (f l) ≡ true
-  unfolding range all pairwise
-  pairwise-range r zero i j l e g h m = absurd (omega arith)
-  pairwise-range r (suc k) i j l e g h m =
-      ⊎-elim (λ (s : i ≡ j). subst (λ (m : ℕ). r (f m) (f l) ≡ true) s (all-range (r (f i)) k (suc i) l (both (all (r (f i)) (map f (range (suc i) k))) (pairwise r (map f (range (suc i) k))) e .0) (omega arith) (omega arith)))
-      (λ (s : i < j). pairwise-range r k (suc i) j l (both (all (r (f i)) (map f (range (suc i) k))) (pairwise r (map f (range (suc i) k))) e .1) s h (omega arith)) (eq-or-lt-of-le g)
+  pub never-falling : chained leb (map f (range 0 n)) ≡ true → (j l : ℕ) → j ≤ l → l < n → f j ≤ f l
+  never-falling e j l h m =
+      ⊎-elim (λ (s : j ≡ l). omega (arith, ap f s))
+      (λ (s : j < l). leb-true _ _ (pairwise-at f leb n j l (chained-pairwise leb _ (λ a b c s t. le-leb a c (omega (arith, leb-true a b s, leb-true b c t))) e) s m))
+      (eq-or-lt-of-le h)
 
-  -- a list in order by its neighbours' keys is in order
-  pub up : (key : A → ℕ) (n : ℕ) → chained (λ a b. ltb (key a) (key b)) (map f (range 0 n)) ≡ true → (j l : ℕ) → j < l → l < n → key (f j) < key (f l)
-  unfolding range chained
-  up key n e j l h m =
-      ltb-true _ _ (pairwise-range (λ a b. ltb (key a) (key b)) n 0 j l
-      (chained-pairwise _ _ (λ a b c. ltb-trans (key a) (key b) (key c)) e) (omega arith) h (omega arith))
+-- what ascends never falls
+pub ascending-weakly : (xs : List ℕ) → chained ltb xs ≡ true → chained leb xs ≡ true
+ascending-weakly xs = chained-as ltb leb (λ a b h. le-leb a b (omega (arith, ltb-true a b h))) xs
 
-  pub up-le : (key : A → ℕ) (n : ℕ) → chained (λ a b. ltb (key a) (key b)) (map f (range 0 n)) ≡ true → (j l : ℕ) → j ≤ l → l < n → key (f j) ≤ key (f l)
-  unfolding range chained
-  up-le key n e j l h m =
-      ⊎-elim (λ (s : j ≡ l). omega (arith, ap (λ (i : ℕ). key (f i)) s)) (λ (s : j < l). omega (arith, up key n e j l s m)) (eq-or-lt-of-le h)
+-- a search by halves for how many are below x: what it comes to between lo and hi
+module _ (f : ℕ → ℕ) (x : ℕ) where
+  pub below : ℕ → ℕ → ℕ
+  unfolding count
+  below lo hi = lo + count (λ y. ltb y x) (from f lo hi)
 
-  -- the first place that passes, from lo up to hi
-  module _ (p : A → Bool) where
-    place-open : (i n : ℕ) → i < n → place p i (from f i n) ≡ cond (p (f i)) (At i) (place p (i + 1) (from f (i + 1) n))
-    unfolding place
-    place-open i n h = rw (from-step f i n h, ← add-one i) refl
+  pub below-start : (n : ℕ) → count (λ y. ltb y x) (map f (range 0 n)) ≡ below 0 n
+  unfolding below range count
+  below-start n = rw (from-all f n, zero-add) refl
 
-    pub place-none : (i n : ℕ) → n ≤ i → place p i (from f i n) ≡ Nothing
-    unfolding place
-    place-none i n h = rw (from-end f i n h) refl
+  pub below-end : (lo hi : ℕ) → hi ≤ lo → below lo hi ≡ lo
+  unfolding below count
+  below-end lo hi h = rw (from-end f lo hi h) (omega arith)
 
-    place-skip : (k i m n : ℕ) → m ≡ i + k → m ≤ n → ((j : ℕ) → i ≤ j → j < m → p (f j) ≡ false) → place p i (from f i n) ≡ place p m (from f m n)
-    unfolding place
-    place-skip zero i m n e h w = let s : m ≡ i = omega arith in rw s refl
-    place-skip (suc k) i m n e h w =
-        place-open i n (omega arith) ∙ rw (w i (omega arith) (omega arith)) (place-skip k (i + 1) m n (omega arith) h (λ j g t. w j (omega arith) t))
+  below-most : (lo hi : ℕ) → lo ≤ hi → below lo hi ≤ hi
+  unfolding below
+  below-most lo hi h = omega (arith, count-most (λ y. ltb y x) (from f lo hi), from-length f lo hi)
 
-    place-cut : (k i m n : ℕ) → m ≡ i + k → m ≤ n → ((j : ℕ) → m ≤ j → j < n → p (f j) ≡ false) → place p i (from f i n) ≡ place p i (from f i m)
-    unfolding place
-    place-cut zero i m n e h w =
-        place-skip (n - i) i n n (omega arith) (omega arith) (λ j g t. w j (omega arith) t) ∙ place-none n n (omega arith) ∙ sym (place-none i m (omega arith))
-    place-cut (suc k) i m n e h w =
-        place-open i n (omega arith) ∙ ap (cond (p (f i)) (At i)) (place-cut k (i + 1) m n (omega arith) h w) ∙ sym (place-open i m (omega arith))
+  below-least : (lo hi : ℕ) → lo ≤ below lo hi
+  unfolding below
+  below-least lo hi = omega arith
 
--- a search by halves in a list whose keys ascend: what it comes to between lo and hi
-module _ {A : Type 0} (f : ℕ → A) (key : A → ℕ) (x : ℕ) where
-  pub sought : ℕ → ℕ → Found
-  unfolding place
-  sought lo hi = place (λ a. eqb (key a) x) lo (from f lo hi)
+  below-skip : (lo m hi : ℕ) → lo ≤ m → m ≤ hi → ((j : ℕ) → j < m → f j < x) → below lo hi ≡ below m hi
+  unfolding below
+  below-skip lo m hi g h w =
+      let e : count (λ y. ltb y x) (from f lo m) ≡ length (from f lo m) = count-whole _ _ (λ y i. let r = in-from f lo m i in lt-ltb y x (omega (arith, r .3, w (r .0) (r .2)))) in
+      rw (from-split f lo m hi g h, count-append, e) (omega (arith, from-length f lo m))
 
-  pub sought-start : (n : ℕ) → place (λ a. eqb (key a) x) 0 (map f (range 0 n)) ≡ sought 0 n
-  unfolding sought range place
-  sought-start n = rw (from-all f n) refl
+  below-cut : (lo m hi : ℕ) → lo ≤ m → m ≤ hi → ((j : ℕ) → m ≤ j → j < hi → x ≤ f j) → below lo hi ≡ below lo m
+  unfolding below
+  below-cut lo m hi g h w =
+      let e : count (λ y. ltb y x) (from f m hi) ≡ 0 = count-zero _ _ (λ y i. let r = in-from f m hi i in le-ltb y x (omega (arith, r .3, w (r .0) (r .1) (r .2)))) in
+      rw (from-split f lo m hi g h, count-append, e) (omega arith)
 
-  pub sought-end : (lo hi : ℕ) → hi ≤ lo → sought lo hi ≡ Nothing
-  unfolding sought
-  sought-end lo hi h = place-none f _ lo hi h
+  module _ (n : ℕ) (e : chained leb (map f (range 0 n)) ≡ true) where
+    pub below-up : (lo m hi : ℕ) → lo ≤ m → m < hi → hi ≤ n → f m < x → below lo hi ≡ below (m + 1) hi
+    below-up lo m hi g h l s = below-skip lo (m + 1) hi (omega arith) (omega arith) (λ j k. omega (arith, never-falling f n e j m (omega arith) (omega arith)))
 
-  module _ (n lo m hi : ℕ) (e : chained (λ a b. ltb (key a) (key b)) (map f (range 0 n)) ≡ true) (g : lo ≤ m) (h : m < hi) (l : hi ≤ n) where
-    pub sought-hit : key (f m) ≡ x → sought lo hi ≡ At m
-    unfolding sought
-    sought-hit s =
-        place-skip f _ (m - lo) lo m hi (omega arith) (omega arith) (λ j a b. ne-eqb _ _ (λ (t : key (f j) ≡ x). omega (arith, up f key n e j m b (omega arith))))
-        ∙ place-open f _ m hi h ∙ rw (eq-eqb _ _ s) refl
+    pub below-down : (lo m hi : ℕ) → lo ≤ m → m < hi → hi ≤ n → x ≤ f m → below lo hi ≡ below lo m
+    below-down lo m hi g h l s = below-cut lo m hi g (omega arith) (λ j k t. omega (arith, never-falling f n e m j k (omega arith)))
 
-    pub sought-up : key (f m) < x → sought lo hi ≡ sought (m + 1) hi
-    unfolding sought
-    sought-up s = place-skip f _ (m + 1 - lo) lo (m + 1) hi (omega arith) (omega arith) (λ j a b. ne-eqb _ _ (λ (t : key (f j) ≡ x). omega (arith, up-le f key n e j m (omega arith) (omega arith))))
+    -- the places below that count are those that have less
+    module _ (r : ℕ) (c : r ≡ count (λ y. ltb y x) (map f (range 0 n))) where
+      pub less-below : (j : ℕ) → j < r → f j < x
+      less-below j h =
+          if (ltb (f j) x) (λ s. ltb-true (f j) x s)
+          (λ s. if (leb n j) (λ t. absurd (omega (arith, leb-true n j t, below-start n, below-most 0 n (omega arith))))
+          (λ t. absurd (omega (arith, below-start n, below-down 0 j n (omega arith) (leb-false n j t) (omega arith) (ltb-false (f j) x s), below-most 0 j (omega arith)))))
 
-    pub sought-down : x < key (f m) → sought lo hi ≡ sought lo m
-    unfolding sought
-    sought-down s = place-cut f _ (m - lo) lo m hi (omega arith) (omega arith) (λ j a b. ne-eqb _ _ (λ (t : key (f j) ≡ x). omega (arith, up-le f key n e m j a (omega arith))))
+      pub more-above : (j : ℕ) → r ≤ j → j < n → x ≤ f j
+      more-above j h k =
+          if (ltb (f j) x) (λ s. absurd (omega (arith, below-start n, below-up 0 j n (omega arith) k (omega arith) (ltb-true (f j) x s), below-least (j + 1) n)))
+          (λ s. ltb-false (f j) x s)
+
+      pub below-within : r ≤ n
+      below-within = omega (arith, below-start n, below-most 0 n (omega arith))
+
+-- a number among those that ascend strictly stands where those below it end, or nowhere
+module _ (f : ℕ → ℕ) (x n r : ℕ) (e : chained ltb (map f (range 0 n)) ≡ true) (c : r ≡ count (λ y. ltb y x) (map f (range 0 n))) where
+  less : (j : ℕ) → j < r → f j < x
+  less = less-below f x n (ascending-weakly (map f (range 0 n)) e) r c
+
+  pub sought-past : n ≤ r → place (λ y. eqb y x) 0 (map f (range 0 n)) ≡ Nothing
+  sought-past h = place-nowhere f (λ y. eqb y x) n (λ j k. ne-eqb (f j) x (λ (t : f j ≡ x). omega (arith, less j (omega arith))))
+
+  pub sought-here : r < n → f r ≡ x → place (λ y. eqb y x) 0 (map f (range 0 n)) ≡ At r
+  sought-here h s = place-first f (λ y. eqb y x) n r h (eq-eqb (f r) x s) (λ j k. ne-eqb (f j) x (λ (t : f j ≡ x). omega (arith, less j k)))
+
+  pub sought-not : r < n → (f r ≡ x → ⊥) → place (λ y. eqb y x) 0 (map f (range 0 n)) ≡ Nothing
+  sought-not h s =
+      place-nowhere f (λ y. eqb y x) n (λ j k. ne-eqb (f j) x (λ (t : f j ≡ x).
+      if (ltb j r) (λ b. omega (arith, less j (ltb-true j r b)))
+      (λ b. if (ltb r j) (λ d. omega (arith, ascending f n e r j (ltb-true r j d) k, more-above f x n (ascending-weakly (map f (range 0 n)) e) r c r (omega arith) h))
+      (λ d. let i : j ≡ r = omega (arith, ltb-false j r b, ltb-false r j d) in s (ap f (sym i) ∙ t)))))
+
+-- a test of the one record whose key is k, where keys ascend
+module _ {A : Type 0} (f : ℕ → A) (key : A → ℕ) (k n : ℕ) (q : A → Bool) (e : chained ltb (map (λ i. key (f i)) (range 0 n)) ≡ true) where
+  pub any-found : {r : Found} {j : ℕ} → r ≡ place (λ y. eqb y k) 0 (map (λ i. key (f i)) (range 0 n)) → r ≡ At j
+      → any (λ x. eqb (key x) k && q x) (map f (range 0 n)) ≡ q (f j)
+  any-found {j = j} h g =
+      let t = found-tells (λ i. key (f i)) (λ y. eqb y k) n h g in
+      same-test _ _
+      (λ b. let r = any-in (λ x. eqb (key x) k && q x) _ b in let m = in-map-of f (range 0 n) (r .1) in let l = in-range 0 n (m .1) in
+      let s = both (eqb (key (r .0)) k) (q (r .0)) (r .2) in
+      ap (λ i. q (f i)) (ascending-one (λ i. key (f i)) n e j (m .0) (t .0) (omega arith) (eqb-true _ k (t .1) ∙ sym (ap key (sym (m .2)) ∙ eqb-true _ k (s .0)))) ∙ (ap q (sym (m .2)) ∙ s .1))
+      (λ b. in-any (λ x. eqb (key x) k && q x) (in-map f (range-in 0 n j (omega arith) (omega arith))) (and (t .1) b))

@@ -175,6 +175,10 @@ any-ext p q (x ∷ xs) h = rw (h x (here refl), any-ext p q xs (λ y m. h y (nex
 pub any-map-ext : {A B : Type 0} (p : A → Bool) (q : B → Bool) (f : A → B) (xs : List A) → ((x : A) → In x xs → q (f x) ≡ p x) → any q (map f xs) ≡ any p xs
 any-map-ext p q f xs e = any-map q f xs ∙ any-ext (λ x. q (f x)) p xs e
 
+-- two tests that are one at every place
+pub any-maps : {A B C : Type 0} (p : A → Bool) (q : B → Bool) (f : C → A) (g : C → B) (xs : List C) → ((x : C) → p (f x) ≡ q (g x)) → any p (map f xs) ≡ any q (map g xs)
+any-maps p q f g xs h = any-map p f xs ∙ (any-ext _ _ xs (λ x m. h x) ∙ sym (any-map q g xs))
+
 pub any-step : {A : Type 0} (p q : A → Bool) (f : A → A) (xs ys : List A)
     → ((x : A) → In x xs → q (f x) ≡ p x) → ((y : A) → In y ys → q y ≡ false) → any q (map f xs ++ ys) ≡ any p xs
 unfolding any

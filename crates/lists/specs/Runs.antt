@@ -1,7 +1,7 @@
 -- Runs of words, and records of one size in them.
 use Prim.Native.Nat.{ℕ, _+_, _*_, _-_, max}
 use mathlib.Core.List.{List, _++_, map}
-use lib.ListN.{length, take, drop, replicate}
+use lib.ListN.{length, getD, take, drop, replicate}
 use Rattle.lists.specs.Lists.{range}
 
 -- `f i`, `f (i + 1)` and so on below n
@@ -29,3 +29,10 @@ at L w i = L .read (drop (L .size * i) w)
 -- the first n records
 abbrev pub table : {A : Type 0} → Layout A → List ℕ → ℕ → List A
 table L w n = map (at L w) (range 0 n)
+
+-- records of `size` words: the word `at` of the record at place i, and of each of the first n
+unfoldable pub field : ℕ → ℕ → List ℕ → ℕ → ℕ
+field size at w i = getD (drop (size * i) w) at 0
+
+abbrev pub fields : ℕ → ℕ → List ℕ → ℕ → List ℕ
+fields size at w n = map (field size at w) (range 0 n)

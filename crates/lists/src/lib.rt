@@ -1,4 +1,5 @@
-// Lists, runs of words and records in runs: definitions in specs/, laws in proofs/.
+// Lists, runs of words and records in runs: definitions in specs/, laws in proofs/, and what the words at one place of every record tell.
+pub mod fields;
 
 // A place, or none.
 pub enum Found {
