@@ -47,7 +47,7 @@ given = record {
   scheduled = 1;
 }
 
-area : List ℕ
+unfoldable pub area : List ℕ
 area = replicate 6 9
 
 -- "110: table `diary` in schema 0, `item` int64 without nulls, `price` int64 with."
@@ -77,7 +77,8 @@ to160 : List Call
 to160 = to150 ++ (expireSnapshots (4 ∷ []) 160 ∷ [])
 
 -- "Drop at 170 is snapshot 6"
-toEnd : List Call
+unfoldable pub toEnd : List Call
+unfolding create insertThree insertTwo deleteOne deleteZero to150 to160
 toEnd =
     to160 ++ (cleanUp 160 ∷ cleanUp 161 ∷ commitAt 170 (dropTable 1) ∷ expireSnapshots (0 ∷ 1 ∷ 2 ∷ 3 ∷ 5 ∷ []) 180 ∷ [])
 

@@ -8,7 +8,7 @@ use native.Mathlib.Omega.{arith}
 use lib.Dec.{leb, ltb, eqb}
 use lib.ListN.{length}
 use borrow.Author.Tests.{ltb-true, ltb-false, eq-eqb, ne-eqb}
-use Rattle.lists.specs.Lists.{all, any, pairwise, chained, agree, has, bit, count}
+use Rattle.lists.specs.Lists.{all, any, pairwise, chained, agree, has, bit, count, before}
 use Rattle.lists.proofs.Tests.{Reflects, if, either, both, reflects-it, reflects-as, reflects-and, reflects-or, reflects-not, reflects-implies, reflects-implies-both, reflects-implies-either, reflects-leb, reflects-ltb, reflects-eqb}
 use Rattle.lists.proofs.Members.{In, All, each, Any, Pairwise, reflects-all, reflects-any, reflects-pairwise}
 use Rattle.lists.proofs.Orders.{reflects-chained}
@@ -18,7 +18,7 @@ use Rattle.layout.specs.Catalog.{absent, numberLimit, Versioned, Snapshot, Sche
 use Rattle.layout.specs.Names.{sameName}
 use Rattle.ducklake.specs.Kinds.{isKind}
 use Rattle.ducklake.specs.Liveness.{live, liveAtSome, latest, latestId, columnsAt}
-use Rattle.ducklake.specs.Soundness.{inLimit, snapshotInRange, schemaInRange, tableInRange, columnInRange, dataFileInRange, deleteFileInRange, statisticsInRange, scheduledInRange, fieldsInRange, follows, snapshotsRise, lifeSound, livesSound, before, byId, byTableAndId, byFileAndColumn, idsAscend, fileIds, fileUuids, sameUuid, idsBelowNext, filesDistinct, holds, sameLife, tableNests, columnNests, dataFileNests, deleteFileNests, livesNest, overlap, schemasApart, tablesApart, columnsApart, namesApart, succeededBy, deleteFilesApart, positionsSound, deletesSound, rowIdEnd, rowsBefore, rowsInTable, rowRangesSound, statisticsFit, fileStatistics, statisticsWanted, fileStatisticsSound, statisticsOnFile, statisticsSound, columnCountSound, columnCountsSound, soundCatalog}
+use Rattle.ducklake.specs.Soundness.{inLimit, snapshotInRange, schemaInRange, tableInRange, columnInRange, dataFileInRange, deleteFileInRange, statisticsInRange, scheduledInRange, fieldsInRange, follows, snapshotsRise, lifeSound, livesSound, byId, byTableAndId, byFileAndColumn, idsAscend, fileIds, fileUuids, sameUuid, idsBelowNext, filesDistinct, holds, sameLife, tableNests, columnNests, dataFileNests, deleteFileNests, livesNest, overlap, schemasApart, tablesApart, columnsApart, namesApart, succeededBy, deleteFilesApart, positionsSound, deletesSound, rowIdEnd, rowsBefore, rowsInTable, rowRangesSound, statisticsFit, fileStatistics, statisticsWanted, fileStatisticsSound, statisticsOnFile, statisticsSound, columnCountSound, columnCountsSound, soundCatalog}
 
 -- a test that is passed
 abbrev pub Passed : {A : Type 0} → (A → Bool) → A → Type 0
@@ -150,7 +150,7 @@ ByTableAndId v w = Before (v .body .table) (v .id) (w .body .table) (w .id)
 abbrev pub ByFileAndColumn : Statistics → Statistics → Type 0
 ByFileAndColumn x y = Before (x .dataFile) (x .column) (y .dataFile) (y .column)
 
-reflects-before : (a b a′ b′ : ℕ) → Reflects (before a b a′ b′) (Before a b a′ b′)
+reflects-before : (a b a′ b′ : ℕ) → Reflects (before (a, b) (a′, b′)) (Before a b a′ b′)
 reflects-before a b a′ b′ = reflects-or (reflects-ltb a a′) (reflects-and (reflects-eqb a a′) (reflects-ltb b b′))
 
 before-trans : (a b a′ b′ a″ b″ : ℕ) → Before a b a′ b′ → Before a′ b′ a″ b″ → Before a b a″ b″

@@ -12,7 +12,7 @@ mod CommitRanges
 mod CommitStatistics
 mod Creates
 mod Deletes
-mod Diary
+pub mod Diary
 mod Entries
 mod Expire
 mod Facts
@@ -30,6 +30,6 @@ mod Pages
 mod Parts
 mod Removals
 mod Retained
-mod Sessions
+pub mod Sessions
 mod Tables
 mod Whole

@@ -5,7 +5,7 @@ use mathlib.Core.List.{List, _++_, map}
 use lib.Dec.{leb, ltb, eqb}
 use lib.ListN.{length}
 use lib.Signed.{leZ}
-use Rattle.lists.specs.Lists.{all, any, pairwise, chained, agree, filter, has}
+use Rattle.lists.specs.Lists.{all, any, pairwise, chained, agree, filter, has, before}
 use Rattle.layout.specs.declared.outcome.Counts.{Counts}
 use Rattle.layout.specs.declared.record.Uuid.{Uuid}
 use Rattle.layout.specs.Catalog.{absent, numberLimit, Versioned, Snapshot, Schema, Table, Column, DataFile, DeleteFile, Statistics, Scheduled, Catalog}
@@ -84,18 +84,14 @@ livesSound C =
     all (lifeSound (C .snapshots)) (C .schemas) && all (lifeSound (C .snapshots)) (C .tables) && all (lifeSound (C .snapshots)) (C .columns)
     && all (lifeSound (C .snapshots)) (C .dataFiles) && all (lifeSound (C .snapshots)) (C .deleteFiles)
 
--- by the first number, and where that is equal by the second
-abbrev pub before : ℕ → ℕ → ℕ → ℕ → Bool
-before a b a′ b′ = ltb a a′ || (eqb a a′ && ltb b b′)
-
 abbrev pub byId : {A : Type 0} → Versioned A → Versioned A → Bool
 byId v w = ltb (v .id) (w .id)
 
 unfoldable pub byTableAndId : Versioned Column → Versioned Column → Bool
-byTableAndId v w = before (v .body .table) (v .id) (w .body .table) (w .id)
+byTableAndId v w = before (v .body .table, v .id) (w .body .table, w .id)
 
 unfoldable pub byFileAndColumn : Statistics → Statistics → Bool
-byFileAndColumn x y = before (x .dataFile) (x .column) (y .dataFile) (y .column)
+byFileAndColumn x y = before (x .dataFile, x .column) (y .dataFile, y .column)
 
 -- "ids ascend strictly in schema, table, data file and delete file, columns by (table id, column id), statistics by (data file id, column id)"
 unfoldable pub idsAscend : Catalog → Bool

@@ -9,7 +9,7 @@ use borrow.Author.Tests.{eqb-true}
 use Rattle.lists.proofs.Tests.{Reflects, both, reflects-as, reflects-and, reflects-leb}
 use Rattle.layout.specs.declared.outcome.Counts.{Counts}
 use Rattle.layout.specs.Names.{nameSize}
-use Rattle.layout.specs.Words.{Words, positionsBefore, capacity, within, fits}
+use Rattle.layout.specs.Words.{Words, tableLimit, positionLimit, positionsBefore, capacity, within, fits}
 
 -- each count is at most the other's
 pub record Within (a b : Counts) : Type 0 where
@@ -38,7 +38,7 @@ reflects-within a b =
     le : (f : Counts → ℕ) → Reflects (leb (f a) (f b)) (f a ≤ f b)
     le f = reflects-leb (f a) (f b)
 
--- the runs hold what the counts take
+-- the runs hold what the counts take, and the counts are within the limits
 pub record Held (w : Words) (c : Counts) : Type 0 where
   pub snapshots : 7 * c .snapshots ≤ length (w .snapshots)
   pub schemas : 3 * c .schemas ≤ length (w .schemas)
@@ -52,6 +52,10 @@ pub record Held (w : Words) (c : Counts) : Type 0 where
   pub positions : c .positions ≤ length (w .positions)
   pub statistics : 7 * c .statistics ≤ length (w .statistics)
   pub scheduled : 4 * c .scheduled ≤ length (w .scheduled)
+  pub tablesMost : c .tables ≤ tableLimit
+  pub dataFilesMost : c .«data_files» ≤ tableLimit
+  pub deleteFilesMost : c .«delete_files» ≤ tableLimit
+  pub positionsMost : c .positions ≤ positionLimit
 
 pub held : (w : Words) (c : Counts) → within c (capacity w) ≡ true → Held w c
 unfolding capacity

@@ -1,5 +1,5 @@
 -- Decode after encode, encode after decode, and the room of what is stored.
-use Prim.Native.Nat.{ℕ, suc, _+_, _*_, _≤_}
+use Prim.Native.Nat.{ℕ, suc, _+_, _*_, _≤_, _<_}
 use mathlib.Core.Path.{_≡_, refl, sym, ap, _∙_}
 use mathlib.Core.Bool.{true}
 use mathlib.Core.List.{List, map, flatMap}
@@ -14,7 +14,7 @@ use Rattle.lists.proofs.Selections.{flatMap-length, map-ext, map-map, map-same}
 use Rattle.lists.proofs.Runs.{replace-length}
 use Rattle.lists.proofs.Layouts.{Lawful, words-of-length, table-kept, table-replace}
 use Rattle.lists.proofs.Loops.{length-range}
-use Rattle.lists.proofs.Pieces.{joined, Pieces, Sized, sizes-sum, pieces-length, words-of-sized, pieces-kept, pieces-replace}
+use Rattle.lists.proofs.Pieces.{joined, Pieces, Sized, sizes-sum, start-grows, pieces-length, words-of-sized, pieces-kept, pieces-replace}
 use Rattle.layout.specs.declared.outcome.Counts.{Counts}
 use Rattle.layout.specs.Records.{deleteFileLayout}
 use Rattle.layout.specs.Catalog.{Catalog, snapshotOf, snapshotRecord, schemaOf, schemaRecord, tableOf, tableRecord, columnOf, columnRecord, dataFileOf, dataFileRecord, deleteFileOf, deleteFileRecord, statisticsOf, statisticsRecord, scheduledOf, scheduledRecord}
@@ -87,11 +87,18 @@ pub positions-then : (run : List ℕ) (i : ℕ) → positionsBefore run (suc i) 
 unfolding positionsBefore
 positions-then run i = refl
 
-abbrev positionPieces : Words → Pieces
-positionPieces w = record { size = deleteCount (w .deleteFiles); start = positionsBefore (w .deleteFiles); first = positions-first (w .deleteFiles); then = positions-then (w .deleteFiles) }
+abbrev positionPieces : List ℕ → Pieces
+positionPieces run = record { size = deleteCount run; start = positionsBefore run; first = positions-first run; then = positions-then run }
+
+-- the positions of each delete file end where those of a later one begin, or before
+pub positions-grow : (run : List ℕ) (i n : ℕ) → i ≤ n → positionsBefore run i ≤ positionsBefore run n
+positions-grow run = start-grows (positionPieces run)
+
+pub positions-end : (run : List ℕ) (i n : ℕ) → i < n → positionsBefore run i + deleteCount run i ≤ positionsBefore run n
+positions-end run i n h = omega (arith, positions-then run i, positions-grow run (suc i) n h)
 
 -- the stored delete counts are those of the positions
-positions-sized : (w : Words) (c : Counts) (C : Catalog) → Sized (positionPieces (store w c C)) (λ v. v .body .positions) (C .deleteFiles)
+positions-sized : (w : Words) (c : Counts) (C : Catalog) → Sized (positionPieces (store w c C .deleteFiles)) (λ v. v .body .positions) (C .deleteFiles)
 unfolding store
 positions-sized w c C = fields-read deleteFile-lawful deleteFileRecord (w .deleteFiles) (c .«delete_files») (C .deleteFiles) (λ r. r .«delete_count»)
 
@@ -100,18 +107,18 @@ module _ (w : Words) (c : Counts) (h : fits w c ≡ true) where
   positions-held = omega (arith, fitting w c h)
 
   positions-length : (i : ℕ) → In i (range 0 (c .«delete_files»)) → length (positionsAt (w .deleteFiles) (w .positions) i) ≡ deleteCount (w .deleteFiles) i
-  positions-length = pieces-length (positionPieces w) (w .positions) (c .«delete_files») positions-held
+  positions-length = pieces-length (positionPieces (w .deleteFiles)) (w .positions) (c .«delete_files») positions-held
 
   positions-sum : sum (map (λ v. length (v .body .positions)) (map (deleteFileAt (w .deleteFiles) (w .positions)) (range 0 (c .«delete_files»)))) ≡ c .positions
   positions-sum =
       ap sum (map-map (λ v. length (v .body .positions)) (deleteFileAt (w .deleteFiles) (w .positions)) (range 0 (c .«delete_files»)))
       ∙ (ap sum (map-ext (λ i. length (positionsAt (w .deleteFiles) (w .positions) i)) (deleteCount (w .deleteFiles)) (range 0 (c .«delete_files»)) positions-length)
-      ∙ (sizes-sum (positionPieces w) (c .«delete_files») ∙ fitting w c h .1))
+      ∙ (sizes-sum (positionPieces (w .deleteFiles)) (c .«delete_files») ∙ fitting w c h .1))
 
   positions-kept : replace (w .positions) (c .positions) (flatMap (λ v. v .body .positions) (map (deleteFileAt (w .deleteFiles) (w .positions)) (range 0 (c .«delete_files»)))) ≡ w .positions
   positions-kept =
       rw (fitting w c h .1) at
-      (pieces-kept (positionPieces w) (λ v. v .body .positions) (w .positions) (c .«delete_files») (deleteFileAt (w .deleteFiles) (w .positions)) (λ j. refl) positions-held)
+      (pieces-kept (positionPieces (w .deleteFiles)) (λ v. v .body .positions) (w .positions) (c .«delete_files») (deleteFileAt (w .deleteFiles) (w .positions)) (λ j. refl) positions-held)
 
   delete-rows : map (λ i. deleteFileRecord (deleteFileAt (w .deleteFiles) (w .positions) i)) (range 0 (c .«delete_files»)) ≡ table deleteFileLayout (w .deleteFiles) (c .«delete_files»)
   delete-rows =
@@ -131,7 +138,7 @@ load-store w c C h = λ i. record {
       (names-read (λ v. v .body .name) (w .columnNames) (c .columns) (C .columns) (h .columns)) i;
   dataFiles = records-read dataFile-lawful dataFileRecord (w .dataFiles) (c .«data_files») (C .dataFiles) dataFileOf (λ x. refl) i;
   deleteFiles = beside-read deleteFile-lawful deleteFileRecord (w .deleteFiles) (c .«delete_files») (C .deleteFiles) deleteFileOf _ _ (λ x. refl)
-      (pieces-replace (positionPieces (store w c C)) (λ v. v .body .positions) (w .positions) (c .positions) (C .deleteFiles) (positions-sized w c C)) i;
+      (pieces-replace (positionPieces (store w c C .deleteFiles)) (λ v. v .body .positions) (w .positions) (c .positions) (C .deleteFiles) (positions-sized w c C)) i;
   statistics = records-read statistics-lawful statisticsRecord (w .statistics) (c .statistics) (C .statistics) statisticsOf (λ x. refl) i;
   scheduled = records-read scheduled-lawful scheduledRecord (w .scheduled) (c .scheduled) (C .scheduled) scheduledOf (λ x. refl) i;
 }
@@ -208,4 +215,4 @@ pub fits-store : (w : Words) (c : Counts) (C : Catalog) → Named C → within c
 unfolding fits countsOf
 fits-store w c C k h g =
     and (ap (within (countsOf C)) (capacity-store w c C k h g) ∙ g)
-    (eq-eqb _ _ (sym (sizes-sum (positionPieces (store w c C)) (length (C .deleteFiles))) ∙ ap sum (positions-sized w c C)))
+    (eq-eqb _ _ (sym (sizes-sum (positionPieces (store w c C .deleteFiles)) (length (C .deleteFiles))) ∙ ap sum (positions-sized w c C)))

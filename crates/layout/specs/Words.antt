@@ -26,6 +26,22 @@ pub record Words : Type 0 where
   pub statistics : List ℕ
   pub scheduled : List ℕ
 
+abbrev pub lent : List ℕ → List ℕ → List ℕ → List ℕ → List ℕ → List ℕ → List ℕ → List ℕ → List ℕ → List ℕ → List ℕ → List ℕ → Words
+lent snapshots schemas schemaNames tables tableNames columns columnNames dataFiles deleteFiles positions statistics scheduled = record {
+  snapshots = snapshots;
+  schemas = schemas;
+  schemaNames = schemaNames;
+  tables = tables;
+  tableNames = tableNames;
+  columns = columns;
+  columnNames = columnNames;
+  dataFiles = dataFiles;
+  deleteFiles = deleteFiles;
+  positions = positions;
+  statistics = statistics;
+  scheduled = scheduled;
+}
+
 -- Reading: the record at a place of a run, with what lies beside it
 
 abbrev pub snapshotAt : List ℕ → ℕ → Snapshot

@@ -7,7 +7,7 @@ use mathlib.Core.Bool.{Bool, true, false, cond, not, _&&_, and-true, and-false, 
 use native.Mathlib.Omega.{arith}
 use lib.Dec.{leb, ltb, eqb}
 use lib.ListN.{length}
-use borrow.Author.Tests.{ltb-true, ltb-false, eqb-true, eqb-false, lt-ltb, le-ltb, eq-eqb, ne-eqb}
+use borrow.Author.Tests.{ltb-true, ltb-false, eqb-true, eqb-false, lt-ltb, le-ltb, le-leb, lt-leb, eq-eqb, ne-eqb}
 use Rattle.lists.specs.Lists.{range, all, any, pairwise, filter, has, bit, count, insertBy, sortBy}
 use Rattle.lists.proofs.Tests.{Reflects, if, either, clash, both, and}
 use Rattle.lists.proofs.Members.{In, here, next, in-cons, in-any, all-in, in-all}
@@ -50,6 +50,11 @@ pub count-sort : {A : Type 0} (p : A → Bool) (key : A → ℕ) (xs : List A) �
 unfolding count sortBy
 count-sort p key [] = refl
 count-sort p key (x ∷ xs) = rw (count-insert p key x (sortBy key xs), count-sort p key xs)
+
+pub count-ext : {A : Type 0} (p q : A → Bool) (xs : List A) → ((x : A) → In x xs → p x ≡ q x) → count p xs ≡ count q xs
+unfolding count
+count-ext p q [] h = refl
+count-ext p q (x ∷ xs) h = rw (h x (here refl), count-ext p q xs (λ y m. h y (next m))) refl
 
 pub count-most : {A : Type 0} (p : A → Bool) (xs : List A) → count p xs ≤ length xs
 unfolding count
@@ -165,3 +170,21 @@ cond-same false x = refl
 pub cond-add : (b : Bool) (m n : ℕ) → cond b m 0 + cond b n 0 ≡ cond b (m + n) 0
 cond-add true m n = refl
 cond-add false m n = refl
+
+-- how many are equal to k: those at most k without those below
+pub count-equal : (k : ℕ) (xs : List ℕ) → count (λ y. ltb y k) xs + count (λ y. eqb y k) xs ≡ count (λ y. leb y k) xs
+unfolding count
+count-equal k [] = refl
+count-equal k (x ∷ xs) = omega (arith, count-equal k xs, one-equal x k)
+  where
+    one-equal : (x k : ℕ) → bit (ltb x k) + bit (eqb x k) ≡ bit (leb x k)
+    one-equal x k =
+        if (ltb x k) (λ b. let h = ltb-true x k b in rw (b, ne-eqb x k (λ (e : x ≡ k). omega arith), le-leb x k (omega arith)))
+        (λ b. if (eqb x k) (λ t. rw (b, t, le-leb x k (omega (arith, eqb-true x k t))))
+        (λ t. rw (b, t, lt-leb x k (omega (arith, ltb-false x k b, eqb-false x k t)))))
+
+-- as many pass as the filter keeps
+pub filter-length : {A : Type 0} (p : A → Bool) (xs : List A) → length (filter p xs) ≡ count p xs
+unfolding filter count
+filter-length p [] = refl
+filter-length p (x ∷ xs) = if (p x) (λ b. rw (b, filter-length p xs) (omega arith)) (λ b. rw (b, filter-length p xs) (omega arith))

@@ -5,10 +5,10 @@ use mathlib.Core.List.{List, [], _∷_, _++_, map, flatMap, append-assoc, append
 use native.Mathlib.Omega.{arith}
 use native.Mathlib.Nat.{add-comm, mul-zero, mul-suc, zero-add}
 use lib.ListN.{length, getD, take, drop, replicate, length-append, length-drop}
-use lib.Seq.{drop-cons, drop-at, drop-drop, take-add}
+use lib.Seq.{drop-cons, drop-at, drop-drop, take-add, take-all, getD-drop}
 use Rattle.lists.specs.Lists.{range}
-use Rattle.lists.specs.Runs.{from, overwrite, replace, Layout, at, table}
-use Rattle.lists.proofs.Selections.{flatMap-append}
+use Rattle.lists.specs.Runs.{from, overwrite, replace, Layout, at, table, field, fields}
+use Rattle.lists.proofs.Selections.{flatMap-append, map-ext}
 use Rattle.lists.proofs.Runs.{overwrite-past, replace-more, replace-kept}
 
 -- a record has `size` words, and reading and writing undo each other
@@ -27,6 +27,13 @@ words-from (suc n) i v h =
 pub words-one-by-one : (n : ℕ) (v : List ℕ) → n ≤ length v → map (λ j. getD v j 0) (range 0 n) ≡ take n v
 unfolding range
 words-one-by-one n v h = words-from n 0 v (omega arith)
+
+-- records of one word each
+pub fields-words : (v : List ℕ) (n : ℕ) → length v ≡ n → fields 1 0 v n ≡ v
+unfolding field
+fields-words v n h =
+    map-ext (field 1 0 v) (λ j. getD v j 0) (range 0 n) (λ j m. getD-drop (1 * j) v 0 0 ∙ ap (λ k. getD v k 0) (omega arith))
+    ∙ (words-one-by-one n v (omega arith) ∙ take-all n v (omega arith))
 
 module _ {A : Type 0} (L : Layout A) (F : Lawful L) where
   pub words-of-length : (rs : List A) → length (flatMap (L .words) rs) ≡ L .size * length rs

@@ -1,13 +1,17 @@
+pub mod Blocks
 pub mod Counts
 pub mod Keys
 pub mod Layouts
 pub mod Loops
+pub mod Matches
 pub mod Members
+pub mod Memory
 pub mod Orders
 pub mod Pieces
 pub mod Places
 pub mod Runs
 pub mod Search
 pub mod Selections
+pub mod Subsets
 pub mod Tests
 pub mod Windows

@@ -10,6 +10,7 @@ use lib.ListN.{length, take, drop, set, replicate, length-map}
 use Rattle.lists.specs.Lists.{range, all, pairwise, chained, filter, place}
 use Rattle.lists.specs.declared.Found.the-variants.{At, Nothing}
 use Rattle.lists.specs.Runs.{from, overwrite, replace, Layout, at, table}
+use Rattle.lists.proofs.Tests.{passed, failed}
 use Rattle.lists.proofs.Runs.{overwrite-none, overwrite-set, overwrite-front, overwrite-over, overwrite-same, replace-same, replace-less, replace-past, record-fits}
 use Rattle.lists.proofs.Layouts.{Lawful, words-of-length, words-at, from-past}
 
@@ -60,6 +61,13 @@ module _ {A : Type 0} (f : ℕ → A) where
     pub all-fail : (i n : ℕ) → i < n → p (f i) ≡ false → all p (from f i n) ≡ false
     unfolding all
     all-fail i n h e = rw (from-step i n h, e) refl
+
+    -- by the answer of a call: `if !r`
+    pub all-passed : {r : Bool} (i n : ℕ) → i < n → r ≡ p (f i) → not r ≡ false → all p (from f i n) ≡ all p (from f (i + 1) n)
+    all-passed i n h e k = all-pass i n h (passed e k)
+
+    pub all-failed : {r : Bool} (i n : ℕ) → i < n → r ≡ p (f i) → not r ≡ true → all p (from f i n) ≡ false
+    all-failed i n h e k = all-fail i n h (failed e k)
 
     pub all-end : (i n : ℕ) → n ≤ i → all p (from f i n) ≡ true
     unfolding all
@@ -135,6 +143,30 @@ clear-end w j e h = rw left-over (overwrite-none w j)
   where
     left-over : e - j ≡ 0
     left-over = omega arith
+
+-- a loop that writes what f gives at each place below n: what the run comes to from the place i on
+module _ (f : ℕ → ℕ) (n : ℕ) where
+  pub filled : List ℕ → ℕ → List ℕ
+  filled w i = overwrite w i (from f i n)
+
+  pub filled-start : (w : List ℕ) → overwrite w 0 (map f (range 0 n)) ≡ filled w 0
+  unfolding filled
+  filled-start w = ap (overwrite w 0) (from-all f n)
+
+  pub filled-next : (w : List ℕ) (i v : ℕ) → i < n → i < length w → v ≡ f i → filled w i ≡ filled (set w i v) (i + 1)
+  unfolding filled
+  filled-next w i v h l e = rw (e, from-step f i n h) (overwrite-set w i (f i) (from f (i + 1) n) l)
+
+  pub filled-end : (w : List ℕ) (i : ℕ) → n ≤ i → filled w i ≡ w
+  unfolding filled
+  filled-end w i h = rw (from-end f i n h) (overwrite-none w i)
+
+  -- such a run begins with what was written
+  pub filled-taken : (w : List ℕ) {v : List ℕ} → v ≡ overwrite w 0 (map f (range 0 n)) → take n v ≡ map f (range 0 n)
+  filled-taken w e = ap₂ take long e ∙ overwrite-front w 0 (map f (range 0 n)) (omega arith)
+    where
+      long : n ≡ 0 + length (map f (range 0 n))
+      long = omega (arith, length-map (range 0 n) f, length-range 0 n)
 
 -- a loop that counts the elements that pass p, and one that writes what g makes of each: what it comes to from the turn i on
 module _ {A : Type 0} (f : ℕ → A) (p : A → Bool) (n : ℕ) where

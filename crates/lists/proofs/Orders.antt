@@ -1,6 +1,6 @@
 -- Sorting by a key, and ascending lists.
 use Prim.Native.Nat.{ℕ, zero, suc, _+_, _≤_, _<_}
-use mathlib.Core.Path.{_≡_, refl, sym, ap, _∙_}
+use mathlib.Core.Path.{_≡_, refl, sym, ap, ap₂, _∙_}
 use mathlib.Core.Logic.{_⊎_, inl, inr}
 use mathlib.Core.List.{List, [], _∷_, _++_, map}
 use mathlib.Core.Bool.{Bool, true, false, cond, _&&_, _||_}
@@ -39,11 +39,26 @@ chained-as r s h [] e = refl
 chained-as r s h (x ∷ []) e = refl
 chained-as r s h (x ∷ (y ∷ ys)) e = let k = both (r x y) (chained r (y ∷ ys)) e in and (h x y (k .0)) (chained-as r s h (y ∷ ys) (k .1))
 
+-- pairs that stand in r stand in s
+pub pairwise-as : {A : Type 0} (r s : A → A → Bool) → ((a b : A) → r a b ≡ true → s a b ≡ true) → (xs : List A) → pairwise r xs ≡ true → pairwise s xs ≡ true
+unfolding pairwise
+pairwise-as r s h [] e = refl
+pairwise-as r s h (x ∷ xs) e =
+    let k = both (all (r x) xs) (pairwise r xs) e in and (in-all (s x) xs (λ y m. h x y (all-in (r x) xs (k .0) m))) (pairwise-as r s h xs (k .1))
+
 pub chained-map : {A B : Type 0} (r : B → B → Bool) (f : A → B) (xs : List A) → chained r (map f xs) ≡ chained (λ a b. r (f a) (f b)) xs
 unfolding chained
 chained-map r f [] = refl
 chained-map r f (x ∷ []) = refl
 chained-map r f (x ∷ (y ∷ ys)) = ap (λ b. r (f x) (f y) && b) (chained-map r f (y ∷ ys))
+
+-- two orders that are one at every place
+pub chained-maps : {A B C : Type 0} (r : A → A → Bool) (s : B → B → Bool) (f : C → A) (g : C → B) (xs : List C)
+    → ((x y : C) → r (f x) (f y) ≡ s (g x) (g y)) → chained r (map f xs) ≡ chained s (map g xs)
+unfolding chained
+chained-maps r s f g [] h = refl
+chained-maps r s f g (x ∷ []) h = refl
+chained-maps r s f g (x ∷ (y ∷ ys)) h = ap₂ _&&_ (h x y) (chained-maps r s f g (y ∷ ys) h)
 
 pub reflects-chained : {A : Type 0} {r : A → A → Bool} {R : A → A → Type 0} → ((x y : A) → Reflects (r x y) (R x y))
     → ((a b c : A) → R a b → R b c → R a c) → (xs : List A) → Reflects (chained r xs) (Pairwise R xs)

@@ -43,6 +43,13 @@ module _ (P : Pieces) where
   pub sizes-sum : (n : ℕ) → sum (map (P .size) (range 0 n)) ≡ P .start n
   sizes-sum n = omega (arith, P .first, rw zero-add at (sizes-from n 0))
 
+  -- a later piece does not start before an earlier one
+  pub start-grows : (i n : ℕ) → i ≤ n → P .start i ≤ P .start n
+  start-grows i n h = omega (arith, sizes-from (n - i) i, ap (P .start) end)
+    where
+      end : i + (n - i) ≡ n
+      end = omega arith
+
   -- in a run that holds the first n pieces they have their sizes
   pub pieces-length : (w : List ℕ) (n : ℕ) → P .start n ≤ length w → (j : ℕ) → In j (range 0 n) → length (piece P w j) ≡ P .size j
   pieces-length w n h j m =

@@ -3,19 +3,21 @@ use Prim.Native.Nat.{ℕ, zero, suc, _+_, _-_, _≤_, _<_}
 use mathlib.Core.Path.{_≡_, refl, sym, ap, _∙_, subst}
 use mathlib.Core.List.{List, [], _∷_, _++_, map}
 use mathlib.Core.Bool.{Bool, true, false, cond, _&&_}
-use borrow.Author.Tests.{ltb-true, ltb-false, eqb-true}
+use borrow.Author.Tests.{ltb-true, ltb-false, eqb-true, eq-eqb}
 use lib.Dec.{ltb, eqb}
 use native.Mathlib.Omega.{arith}
 use native.Mathlib.Numerals.{add-one}
 use native.Mathlib.Nat.{eq-or-lt-of-le, add-zero, add-suc, suc-add, zero-add}
-use lib.ListN.{length}
+use lib.ListN.{length, getD, take, length-map, length-take}
+use lib.Seq.{getD-take}
 use Rattle.lists.specs.declared.Found.{Found}
 use Rattle.lists.specs.declared.Found.the-variants.{At, Nothing}
-use Rattle.lists.specs.Lists.{range, all, any, pairwise, place, last}
+use Rattle.lists.specs.Lists.{range, all, any, pairwise, place, last, has}
 use Rattle.lists.specs.Runs.{from}
-use Rattle.lists.proofs.Tests.{if, either, both, clash}
-use Rattle.lists.proofs.Members.{In, here, next, all-in, in-map, in-map-of, in-range, range-in}
-use Rattle.lists.proofs.Selections.{map-append, any-none}
+use Rattle.lists.proofs.Tests.{if, either, both, clash, same-test, eqb-swap}
+use Rattle.lists.proofs.Members.{In, here, next, all-in, in-all, in-map, in-map-of, in-range, range-in}
+use Rattle.lists.proofs.Selections.{map-append, any-none, any-ext}
+use Rattle.lists.proofs.Loops.{length-range}
 
 pub range-split : (i m n : ℕ) → range i (m + n) ≡ range i m ++ range (i + m) n
 unfolding range
@@ -34,6 +36,23 @@ module _ {A : Type 0} (f : ℕ → A) where
   -- what holds of every place holds of each
   pub all-at : (p : A → Bool) (n j : ℕ) → all p (map f (range 0 n)) ≡ true → j < n → p (f j) ≡ true
   all-at p n j e h = all-in p _ e (in-map f (range-in 0 n j (omega arith) (omega arith)))
+
+  pub at-all : (p : A → Bool) (n : ℕ) → ((j : ℕ) → j < n → p (f j) ≡ true) → all p (map f (range 0 n)) ≡ true
+  at-all p n h = in-all p _ (λ x m. let r = in-map-of f (range 0 n) m in let b = in-range 0 n (r .1) in ap p (r .2) ∙ h (r .0) (omega arith))
+
+  -- what stands at each place
+  getD-from : (d : A) (n i j : ℕ) → j < n → getD (map f (range i n)) j d ≡ f (i + j)
+  unfolding range
+  getD-from d zero i j h = absurd (omega arith)
+  getD-from d (suc n) i zero h = ap f (sym (add-zero i))
+  getD-from d (suc n) i (suc j) h = getD-from d n (suc i) j (omega arith) ∙ rw (suc-add, add-suc) refl
+
+  -- of a list that begins with what f gives at each place below n
+  pub taken-at : (d : A) (xs : List A) (n j : ℕ) → take n xs ≡ map f (range 0 n) → j < n → (j < length xs) × (getD xs j d ≡ f j)
+  taken-at d xs n j e h = (
+    omega (arith, length-take n xs, ap length e, length-map (range 0 n) f, length-range 0 n),
+    sym (getD-take n xs j d h) ∙ (ap (λ ys. getD ys j d) e ∙ (getD-from d n 0 j h ∙ rw zero-add refl)),
+  )
 
   pub pairwise-from : (r : A → A → Bool) (n i j k : ℕ) → pairwise r (map f (range i n)) ≡ true → i ≤ j → j < k → k < i + n → r (f j) (f k) ≡ true
   unfolding range pairwise
@@ -100,9 +119,35 @@ unfolding any place
 any-place p i [] = refl
 any-place p i (x ∷ xs) = if (p x) (λ e. rw e) (λ e. rw e (any-place p (suc i) xs))
 
+pub has-place : {x y : ℕ} (xs : List ℕ) {r : Found} → x ≡ y → r ≡ place (λ z. eqb z x) 0 xs → has y xs ≡ isAt r
+has-place {x} {y} xs e h = any-ext (eqb y) (λ z. eqb z x) xs (λ z m. rw (← e) (eqb-swap x z)) ∙ (any-place (λ z. eqb z x) 0 xs ∙ ap isAt (sym h))
+
 pub found-tells : {A : Type 0} (f : ℕ → A) (p : A → Bool) (n : ℕ) {r : Found} {j : ℕ} → r ≡ place p 0 (map f (range 0 n)) → r ≡ At j → (j < n) × (p (f j) ≡ true)
 found-tells f p n {r} {j} h g =
     let t : Placed f p 0 (0 + n) (At j) = subst (Placed f p 0 (0 + n)) (sym h ∙ g) (placed f p n 0) in (omega arith, t .2)
+
+-- the place, or 0
+abbrev pub placeOf : Found → ℕ
+placeOf (At i) = i
+placeOf Nothing = 0
+
+abbrev pub placeIn : List ℕ → ℕ → ℕ
+placeIn xs x = placeOf (place (λ z. eqb z x) 0 xs)
+
+-- numbers that are among those of f: each stands at its place, and two are equal where their places are
+module _ (f : ℕ → ℕ) (n : ℕ) where
+  has-at : (x : ℕ) → has x (map f (range 0 n)) ≡ true → f (placeIn (map f (range 0 n)) x) ≡ x
+  has-at x h = at (place (λ z. eqb z x) 0 (map f (range 0 n))) refl (sym (has-place (map f (range 0 n)) refl refl) ∙ h)
+    where
+      at : (r : Found) → place (λ z. eqb z x) 0 (map f (range 0 n)) ≡ r → isAt r ≡ true → f (placeOf r) ≡ x
+      at (At k) e t = eqb-true (f k) x (found-tells f (λ z. eqb z x) n refl e .1)
+      at Nothing e t = clash t refl
+
+  pub same-place : (x y : ℕ) → has x (map f (range 0 n)) ≡ true → has y (map f (range 0 n)) ≡ true
+      → eqb x y ≡ eqb (placeIn (map f (range 0 n)) x) (placeIn (map f (range 0 n)) y)
+  same-place x y h k =
+      same-test _ _ (λ t. eq-eqb _ _ (ap (placeIn (map f (range 0 n))) (eqb-true x y t)))
+      (λ t. eq-eqb x y (sym (has-at x h) ∙ (ap f (eqb-true _ _ t) ∙ has-at y k)))
 
 -- no element has the key k
 pub any-nowhere : {A : Type 0} (f : ℕ → A) (key : A → ℕ) (k n : ℕ) (q : A → Bool) {r : Found}

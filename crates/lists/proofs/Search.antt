@@ -3,7 +3,7 @@ use Prim.Native.Nat.{ℕ, zero, suc, _+_, _-_, _≤_, _<_}
 use mathlib.Core.Path.{_≡_, refl, sym, ap, _∙_, subst}
 use mathlib.Core.Logic.{⊎-elim}
 use mathlib.Core.List.{List, map}
-use mathlib.Core.Bool.{Bool, true, false, cond, _&&_}
+use mathlib.Core.Bool.{Bool, true, false, cond, not, _&&_}
 use native.Mathlib.Omega.{arith}
 use native.Mathlib.Numerals.{add-one}
 use native.Mathlib.Nat.{eq-or-lt-of-le, zero-add}
@@ -12,14 +12,15 @@ use lib.Dec.{leb, ltb, eqb}
 use lib.ListN.{length}
 use Rattle.lists.specs.declared.Found.{Found}
 use Rattle.lists.specs.declared.Found.the-variants.{At, Nothing}
-use Rattle.lists.specs.Lists.{range, all, any, pairwise, chained, count, place}
-use Rattle.lists.specs.Runs.{from}
-use Rattle.lists.proofs.Tests.{if, both, and, same-test}
-use Rattle.lists.proofs.Members.{any-in, in-any, in-map, in-map-of, in-range, range-in}
-use Rattle.lists.proofs.Orders.{chained-pairwise, chained-as}
+use Rattle.lists.specs.Lists.{range, all, any, pairwise, chained, before, count, place}
+use Rattle.lists.specs.Runs.{from, field, fields, pairAt, pairs}
+use Rattle.lists.proofs.Tests.{if, either, or-cases, both, and, same-test, reflects-ltb, reflects-eqb, reflects-not}
+use Rattle.lists.proofs.Members.{any-in, in-any, in-map, in-map-of, in-range, range-in, pair-as, reflects-pairwise, In}
+use Rattle.lists.proofs.Orders.{chained-pairwise, chained-as, chained-maps, reflects-chained}
 use Rattle.lists.proofs.Loops.{from-length, from-end, from-all}
 use Rattle.lists.proofs.Counts.{count-append, count-zero, count-whole, count-most}
 use Rattle.lists.proofs.Places.{from-split, in-from, pairwise-at, place-first, place-nowhere, found-tells}
+use Rattle.lists.proofs.Selections.{any-none}
 
 -- numbers in order by their neighbours are in order
 module _ (f : ℕ → ℕ) (n : ℕ) where
@@ -41,6 +42,23 @@ module _ (f : ℕ → ℕ) (n : ℕ) where
 -- what ascends never falls
 pub ascending-weakly : (xs : List ℕ) → chained ltb xs ≡ true → chained leb xs ≡ true
 ascending-weakly xs = chained-as ltb leb (λ a b h. le-leb a b (omega (arith, ltb-true a b h))) xs
+
+-- the first words of pairs in order never fall
+before-first : (a b : ℕ × ℕ) → before a b ≡ true → leb (a .0) (b .0) ≡ true
+before-first a b h =
+    le-leb (a .0) (b .0) (either (or-cases (ltb (a .0) (b .0)) _ h) (λ s. omega (arith, ltb-true (a .0) (b .0) s))
+    (λ s. omega (arith, eqb-true (a .0) (b .0) (both (eqb (a .0) (b .0)) _ s .0))))
+
+pub pairs-first : (size first second : ℕ) (run : List ℕ) (n : ℕ) → chained before (pairs size first second run n) ≡ true → chained leb (fields size first run n) ≡ true
+pairs-first size first second run n e =
+    chained-maps leb (λ a b. leb (a .0) (b .0)) (field size first run) (pairAt size first second run) (range 0 n) (λ i j. refl)
+    ∙ chained-as before (λ a b. leb (a .0) (b .0)) before-first (pairs size first second run n) e
+
+-- what ascends differs
+pub ascending-differ : (xs : List ℕ) → chained ltb xs ≡ true → pairwise (λ x y. not (eqb x y)) xs ≡ true
+ascending-differ xs e =
+    reflects-pairwise (λ x y. reflects-not (reflects-eqb x y)) xs .from
+    (pair-as (reflects-chained {R = _<_} reflects-ltb (λ a b c p q. omega arith) xs .to e) (λ x y m n h. λ (s : x ≡ y). omega arith))
 
 -- a search by halves for how many are below x: what it comes to between lo and hi
 module _ (f : ℕ → ℕ) (x : ℕ) where
@@ -117,6 +135,13 @@ module _ (f : ℕ → ℕ) (x n r : ℕ) (e : chained ltb (map f (range 0 n)) �
       (λ b. if (ltb r j) (λ d. omega (arith, ascending f n e r j (ltb-true r j d) k, more-above f x n (ascending-weakly (map f (range 0 n)) e) r c r (omega arith) h))
       (λ d. let i : j ≡ r = omega (arith, ltb-false j r b, ltb-false r j d) in s (ap f (sym i) ∙ t)))))
 
+-- records whose keys ascend: one of each key
+pub keyed-one : {A : Type 0} (f : ℕ → A) (key : A → ℕ) (n : ℕ) → chained ltb (map (λ i. key (f i)) (range 0 n)) ≡ true → {x y : A}
+    → In x (map f (range 0 n)) → In y (map f (range 0 n)) → key x ≡ key y → x ≡ y
+keyed-one f key n e k l s =
+    let a = in-map-of f (range 0 n) k in let b = in-map-of f (range 0 n) l in let i = in-range 0 n (a .1) in let j = in-range 0 n (b .1) in
+    a .2 ∙ (ap f (ascending-one (λ i. key (f i)) n e (a .0) (b .0) (omega arith) (omega arith) (ap key (sym (a .2)) ∙ (s ∙ ap key (b .2)))) ∙ sym (b .2))
+
 -- a test of the one record whose key is k, where keys ascend
 module _ {A : Type 0} (f : ℕ → A) (key : A → ℕ) (k n : ℕ) (q : A → Bool) (e : chained ltb (map (λ i. key (f i)) (range 0 n)) ≡ true) where
   pub any-found : {r : Found} {j : ℕ} → r ≡ place (λ y. eqb y k) 0 (map (λ i. key (f i)) (range 0 n)) → r ≡ At j
@@ -128,3 +153,21 @@ module _ {A : Type 0} (f : ℕ → A) (key : A → ℕ) (k n : ℕ) (q : A → B
       let s = both (eqb (key (r .0)) k) (q (r .0)) (r .2) in
       ap (λ i. q (f i)) (ascending-one (λ i. key (f i)) n e j (m .0) (t .0) (omega arith) (eqb-true _ k (t .1) ∙ sym (ap key (sym (m .2)) ∙ eqb-true _ k (s .0)))) ∙ (ap q (sym (m .2)) ∙ s .1))
       (λ b. in-any (λ x. eqb (key x) k && q x) (in-map f (range-in 0 n j (omega arith) (omega arith))) (and (t .1) b))
+
+-- a test that only numbers from x on pass
+module _ (f : ℕ → ℕ) (x n r : ℕ) (e : chained leb (map f (range 0 n)) ≡ true) (c : r ≡ count (λ y. ltb y x) (map f (range 0 n))) (q : ℕ → Bool) (low : (y : ℕ) → q y ≡ true → x ≤ y) where
+  pub any-past : n ≤ r → any q (map f (range 0 n)) ≡ false
+  any-past h =
+      any-none q _ (λ y m. let t = in-map-of f (range 0 n) m in let l = in-range 0 n (t .1) in
+      if (q y) (λ b. absurd (omega (arith, t .2, low y b, less-below f x n e r c (t .0) (omega arith)))) (λ b. b))
+
+  -- where, with a number, the smaller ones from x on pass too: the first from x on decides
+  pub any-first : ((y z : ℕ) → x ≤ y → y ≤ z → q z ≡ true → q y ≡ true) → r < n → any q (map f (range 0 n)) ≡ q (f r)
+  any-first down h =
+      same-test _ _
+      (λ b. let t = any-in q _ b in let m = in-map-of f (range 0 n) (t .1) in let l = in-range 0 n (m .1) in
+      down (f r) (t .0) (more-above f x n e r c r (omega arith) h)
+      (if (leb r (m .0)) (λ s. omega (arith, m .2, never-falling f n e r (m .0) (leb-true r (m .0) s) (omega arith)))
+      (λ s. absurd (omega (arith, m .2, low (t .0) (t .2), less-below f x n e r c (m .0) (leb-false r (m .0) s)))))
+      (t .2))
+      (λ b. in-any q (in-map f (range-in 0 n r (omega arith) (omega arith))) b)

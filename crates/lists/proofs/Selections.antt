@@ -1,16 +1,16 @@
 -- What maps, filters and flatMaps come to.
-use Prim.Native.Nat.{ℕ, zero, suc, _+_}
-use mathlib.Core.Path.{_≡_, refl, sym, ap, _∙_}
+use Prim.Native.Nat.{ℕ, zero, suc, _+_, _<_}
+use mathlib.Core.Path.{_≡_, refl, sym, ap, ap₂, _∙_}
 use mathlib.Core.List.{List, [], _∷_, _++_, map, flatMap, append-nil, append-assoc}
 use mathlib.Core.Bool.{Bool, true, false, cond, not, _&&_, _||_, and-comm, and-true, and-false}
 use native.Mathlib.Omega.{arith}
-use lib.Dec.{eqb}
+use lib.Dec.{ltb, eqb}
 use lib.ListN.{length, length-append}
-use borrow.Author.Tests.{eqb-true, eq-eqb}
-use Rattle.lists.specs.Lists.{range, all, any, filter, last, has, sum, agree}
+use borrow.Author.Tests.{lt-ltb, eqb-true, eq-eqb}
+use Rattle.lists.specs.Lists.{range, all, any, pairwise, filter, last, has, sum, agree}
 use mathlib.Core.Logic.{_⊎_, inl, inr}
-use Rattle.lists.proofs.Tests.{if, either, same-test}
-use Rattle.lists.proofs.Members.{In, here, next, in-cons, in-nil, Pairwise, none, more, All, each, any-in, in-any, Any}
+use Rattle.lists.proofs.Tests.{if, either, both, and, same-test, not-or, eqb-swap}
+use Rattle.lists.proofs.Members.{In, here, next, in-cons, in-nil, Pairwise, none, more, All, each, any-in, in-any, Any, in-all, all-in}
 
 -- flatMap
 
@@ -44,6 +44,10 @@ flatMap-length h (x ∷ xs) = rw (length-append, flatMap-length h xs)
 pub map-ext : {A B : Type 0} (f g : A → B) (xs : List A) → ((x : A) → In x xs → f x ≡ g x) → map f xs ≡ map g xs
 map-ext f g [] e = refl
 map-ext f g (x ∷ xs) e = rw (e x (here refl), map-ext f g xs (λ y m. e y (next m)))
+
+pub map-id : {A : Type 0} (xs : List A) → xs ≡ map (λ x. x) xs
+map-id [] = refl
+map-id (x ∷ xs) = ap (_∷_ x) (map-id xs)
 
 pub map-map : {A B C : Type 0} (g : B → C) (f : A → B) (xs : List A) → map g (map f xs) ≡ map (λ x. g (f x)) xs
 map-map g f [] = refl
@@ -155,6 +159,90 @@ flatMap-step p q h k f (x ∷ xs) ys e g =
     (λ b. rw (e x (here refl), b, g x (here refl) b, ih) (sym (append-assoc (h x) (flatMap h (filter p xs)) (flatMap k (filter q ys)))))
     (λ b. rw (e x (here refl), b) ih)
 
+-- all
+pub all-map : {A B : Type 0} (p : B → Bool) (f : A → B) (xs : List A) → all p (map f xs) ≡ all (λ x. p (f x)) xs
+unfolding all
+all-map p f [] = refl
+all-map p f (x ∷ xs) = ap (λ b. p (f x) && b) (all-map p f xs)
+
+pub all-append : {A : Type 0} (p : A → Bool) (xs ys : List A) → all p (xs ++ ys) ≡ (all p xs && all p ys)
+unfolding all
+all-append p [] ys = refl
+all-append p (x ∷ xs) ys = if (p x) (λ e. rw e (all-append p xs ys)) (λ e. rw e)
+
+pub all-ext : {A : Type 0} (p q : A → Bool) (xs : List A) → ((x : A) → In x xs → p x ≡ q x) → all p xs ≡ all q xs
+unfolding all
+all-ext p q [] h = refl
+all-ext p q (x ∷ xs) h = rw (h x (here refl), all-ext p q xs (λ y m. h y (next m))) refl
+
+pub all-both : {A : Type 0} (p q : A → Bool) (xs : List A) → (all p xs && all q xs) ≡ all (λ x. p x && q x) xs
+unfolding all
+all-both p q [] = refl
+all-both p q (x ∷ xs) = rw (← all-both p q xs) (swap (p x) (all p xs) (q x) (all q xs))
+  where
+    swap : (a b c d : Bool) → ((a && b) && (c && d)) ≡ ((a && c) && (b && d))
+    swap true true c d = refl
+    swap true false true d = refl
+    swap true false false d = refl
+    swap false b c d = refl
+
+pub pairwise-map : {A B : Type 0} (r : B → B → Bool) (f : A → B) (xs : List A) → pairwise r (map f xs) ≡ pairwise (λ x y. r (f x) (f y)) xs
+unfolding pairwise
+pairwise-map r f [] = refl
+pairwise-map r f (x ∷ xs) = ap₂ _&&_ (all-map (r (f x)) f xs) (pairwise-map r f xs)
+
+pub pairwise-ext : {A : Type 0} (r s : A → A → Bool) (xs : List A) → ((x y : A) → In x xs → In y xs → r x y ≡ s x y) → pairwise r xs ≡ pairwise s xs
+unfolding pairwise
+pairwise-ext r s [] h = refl
+pairwise-ext r s (x ∷ xs) h = ap₂ _&&_ (all-ext _ _ xs (λ y m. h x y (here refl) (next m))) (pairwise-ext r s xs (λ y z m k. h y z (next m) (next k)))
+
+-- two lists compared all with all, from either side
+pub all-swap : {A B : Type 0} (r : A → B → Bool) (xs : List A) (ys : List B) → all (λ x. all (r x) ys) xs ≡ all (λ y. all (λ x. r x y) xs) ys
+unfolding all
+all-swap r [] ys = sym (in-all (λ y. true) ys (λ y m. refl))
+all-swap r (x ∷ xs) ys = rw (all-swap r xs ys) (all-both (r x) (λ y. all (λ x. r x y) xs) ys)
+
+pub all-all-append : {A B : Type 0} (r : A → B → Bool) (xs : List A) (ys zs : List B) → all (λ x. all (r x) (ys ++ zs)) xs ≡ (all (λ x. all (r x) ys) xs && all (λ x. all (r x) zs) xs)
+all-all-append r xs ys zs = all-ext _ _ xs (λ x m. all-append (r x) ys zs) ∙ sym (all-both (λ x. all (r x) ys) (λ x. all (r x) zs) xs)
+
+pub pairwise-append : {A : Type 0} (r : A → A → Bool) (xs ys : List A) → pairwise r (xs ++ ys) ≡ (pairwise r xs && (pairwise r ys && all (λ x. all (r x) ys) xs))
+unfolding all pairwise
+pairwise-append r [] ys = sym (and-true (pairwise r ys))
+pairwise-append r (x ∷ xs) ys =
+    rw (all-append (r x) xs ys, pairwise-append r xs ys) (swap (all (r x) xs) (all (r x) ys) (pairwise r xs) (pairwise r ys) (all (λ x. all (r x) ys) xs))
+  where
+    swap : (a b c d e : Bool) → ((a && b) && (c && (d && e))) ≡ ((a && c) && (d && (b && e)))
+    swap true true true d e = refl
+    swap true false true d e = sym (and-false d)
+    swap true b false d e = and-false b
+    swap false b c d e = refl
+
+-- three lists, each by itself and each with each
+pub pairwise-three : {A : Type 0} (r : A → A → Bool) (xs ys zs : List A)
+    → pairwise r (xs ++ (ys ++ zs)) ≡ (pairwise r xs && pairwise r ys && pairwise r zs && all (λ x. all (r x) ys) xs && all (λ x. all (r x) zs) xs && all (λ y. all (r y) zs) ys)
+pairwise-three r xs ys zs =
+    rw (pairwise-append r xs (ys ++ zs), pairwise-append r ys zs, all-all-append r xs ys zs)
+    (swap (pairwise r xs) (pairwise r ys) (pairwise r zs) (all (λ x. all (r x) ys) xs) (all (λ x. all (r x) zs) xs) (all (λ y. all (r y) zs) ys))
+  where
+    swap : (a b c d e f : Bool) → (a && ((b && (c && f)) && (d && e))) ≡ (a && b && c && d && e && f)
+    swap true true true d e f = and-comm f (d && e)
+    swap true true false d e f = refl
+    swap true false c d e f = refl
+    swap false b c d e f = refl
+
+-- two tests that are one at every place
+pub all-maps : {A B C : Type 0} (p : A → Bool) (q : B → Bool) (f : C → A) (g : C → B) (xs : List C) → ((x : C) → p (f x) ≡ q (g x)) → all p (map f xs) ≡ all q (map g xs)
+all-maps p q f g xs h = all-map p f xs ∙ (all-ext _ _ xs (λ x m. h x) ∙ sym (all-map q g xs))
+
+-- where the one test passes at every place, so does the other
+pub all-weaken : {A : Type 0} (p q : A → Bool) (xs : List A) → ((x : A) → p x ≡ true → q x ≡ true) → all p xs ≡ true → all q xs ≡ true
+all-weaken p q xs h e = in-all q xs (λ x m. h x (all-in p xs e m))
+
+pub all-as : {A B C : Type 0} (p : A → Bool) (q : B → Bool) (f : C → A) (g : C → B) (xs : List C) → ((x : C) → p (f x) ≡ true → q (g x) ≡ true) → all p (map f xs) ≡ true → all q (map g xs) ≡ true
+unfolding all
+all-as p q f g [] h e = refl
+all-as p q f g (x ∷ xs) h e = let k = both (p (f x)) (all p (map f xs)) e in and (h x (k .0)) (all-as p q f g xs h (k .1))
+
 -- any
 
 pub any-append : {A : Type 0} (p : A → Bool) (xs ys : List A) → any p (xs ++ ys) ≡ (any p xs || any p ys)
@@ -179,6 +267,12 @@ any-map-ext p q f xs e = any-map q f xs ∙ any-ext (λ x. q (f x)) p xs e
 pub any-maps : {A B C : Type 0} (p : A → Bool) (q : B → Bool) (f : C → A) (g : C → B) (xs : List C) → ((x : C) → p (f x) ≡ q (g x)) → any p (map f xs) ≡ any q (map g xs)
 any-maps p q f g xs h = any-map p f xs ∙ (any-ext _ _ xs (λ x m. h x) ∙ sym (any-map q g xs))
 
+-- n elements are some where n is not 0
+pub any-true : {A : Type 0} (f : ℕ → A) (n : ℕ) → any (λ x. true) (map f (range 0 n)) ≡ ltb 0 n
+unfolding range any
+any-true f zero = refl
+any-true f (suc n) = sym (lt-ltb 0 (suc n) (omega arith))
+
 pub any-step : {A : Type 0} (p q : A → Bool) (f : A → A) (xs ys : List A)
     → ((x : A) → In x xs → q (f x) ≡ p x) → ((y : A) → In y ys → q y ≡ false) → any q (map f xs ++ ys) ≡ any p xs
 unfolding any
@@ -201,6 +295,22 @@ pub any-none : {A : Type 0} (p : A → Bool) (xs : List A) → ((x : A) → In x
 unfolding any
 any-none p [] h = refl
 any-none p (x ∷ xs) h = rw (h x (here refl)) (any-none p xs (λ y m. h y (next m)))
+
+pub not-any-all : {A : Type 0} (p : A → Bool) (xs : List A) → not (any p xs) ≡ all (λ x. not (p x)) xs
+unfolding all any
+not-any-all p [] = refl
+not-any-all p (x ∷ xs) = sym (not-or (p x) (any p xs)) ∙ ap (λ b. not (p x) && b) (not-any-all p xs)
+
+-- no number of the second list is one of the first
+pub has-none : (xs ys : List ℕ) → all (λ y. not (has y xs)) ys ≡ all (λ x. all (λ y. not (eqb x y)) ys) xs
+has-none xs ys =
+    all-ext _ _ ys (λ y m. not-any-all (eqb y) xs ∙ all-ext _ _ xs (λ x n. ap not (eqb-swap y x))) ∙ sym (all-swap (λ x y. not (eqb x y)) xs ys)
+
+-- a list that is not empty has some element
+pub any-some : {A : Type 0} (xs : List A) → 0 < length xs → any (λ x. true) xs ≡ true
+unfolding any
+any-some [] h = absurd (omega arith)
+any-some (x ∷ xs) h = refl
 
 pub has-map : (a p : ℕ) (ps : List ℕ) → has (a + p) (map (λ q. a + q) ps) ≡ has p ps
 unfolding any

@@ -1,10 +1,11 @@
 -- Tests and what they tell.
-use Prim.Native.Nat.{ℕ, _≤_, _<_}
+use Prim.Native.Nat.{ℕ, _+_, _≤_, _<_}
+use native.Mathlib.Omega.{arith}
 use mathlib.Core.Path.{_≡_, refl, sym, ap, _∙_}
 use mathlib.Core.Logic.{_⊎_, inl, inr}
 use mathlib.Core.Bool.{Bool, true, false, not, _&&_, _||_, or-assoc, true≢false, false≢true}
 use lib.Dec.{leb, ltb, eqb}
-use borrow.Author.Tests.{leb-true, ltb-true, eqb-true, le-leb, lt-ltb, eq-eqb, ltb-false, lt-leb}
+use borrow.Author.Tests.{leb-true, ltb-true, eqb-true, le-leb, lt-ltb, eq-eqb, ltb-false, lt-leb, not-true, not-false}
 
 -- a test that is passed just where a fact holds
 pub record Reflects (b : Bool) (P : Type 0) : Type 0 where
@@ -105,6 +106,12 @@ reflects-ltb a b = record { to = ltb-true a b; from = lt-ltb a b }
 pub reflects-eqb : (a b : ℕ) → Reflects (eqb a b) (a ≡ b)
 reflects-eqb a b = record { to = eqb-true a b; from = eq-eqb a b }
 
+pub ltb-suc : (a b : ℕ) → ltb a (b + 1) ≡ leb a b
+ltb-suc a b = same-test _ _ (λ h. le-leb a b (omega (arith, ltb-true a (b + 1) h))) (λ h. lt-ltb a (b + 1) (omega (arith, leb-true a b h)))
+
+pub eqb-swap : (a b : ℕ) → eqb a b ≡ eqb b a
+eqb-swap a b = same-test _ _ (λ h. eq-eqb b a (sym (eqb-true a b h))) (λ h. eq-eqb a b (sym (eqb-true b a h)))
+
 pub leb-not-ltb : (a b : ℕ) → leb a b ≡ not (ltb b a)
 leb-not-ltb a b = if (ltb b a) (λ e. rw (e, lt-leb a b (ltb-true b a e))) (λ e. rw (e, le-leb a b (ltb-false b a e)))
 
@@ -114,3 +121,10 @@ reflects-implies-both {a} {b} {c} s t u = rw or-assoc (reflects-implies s (refle
 
 pub reflects-implies-either : {a b c : Bool} {P Q R : Type 0} → Reflects a P → Reflects b Q → Reflects c R → Reflects (not a || b || c) (P → Q ⊎ R)
 reflects-implies-either {a} {b} {c} s t u = rw or-assoc (reflects-implies s (reflects-or t u))
+
+-- a test by its answer: `if !r`
+pub passed : {r b : Bool} → r ≡ b → not r ≡ false → b ≡ true
+passed {r} e h = sym e ∙ not-false r h
+
+pub failed : {r b : Bool} → r ≡ b → not r ≡ true → b ≡ false
+failed {r} e h = sym e ∙ not-true r h

@@ -2,7 +2,7 @@
 use Prim.Native.Nat.{ℕ, zero, suc, _+_, max}
 use mathlib.Core.List.{List, [], _∷_}
 use mathlib.Core.Bool.{Bool, true, false, cond, _&&_, _||_}
-use lib.Dec.{leb, eqb}
+use lib.Dec.{leb, ltb, eqb}
 use Rattle.lists.specs.declared.Found.{Found}
 use Rattle.lists.specs.declared.Found.the-variants.{At, Nothing}
 
@@ -58,6 +58,10 @@ place p i (x ∷ xs) = cond (p x) (At i) (place p (suc i) xs)
 unfoldable pub last : {A : Type 0} → A → List A → A
 last d [] = d
 last d (x ∷ xs) = last x xs
+
+-- by the first number, and where that is equal by the second
+abbrev pub before : ℕ × ℕ → ℕ × ℕ → Bool
+before a b = ltb (a .0) (b .0) || (eqb (a .0) (b .0) && ltb (a .1) (b .1))
 
 abbrev pub has : ℕ → List ℕ → Bool
 has n xs = any (eqb n) xs

@@ -36,3 +36,10 @@ field size at w i = getD (drop (size * i) w) at 0
 
 abbrev pub fields : ℕ → ℕ → List ℕ → ℕ → List ℕ
 fields size at w n = map (field size at w) (range 0 n)
+
+-- two words of it together
+abbrev pub pairAt : ℕ → ℕ → ℕ → List ℕ → ℕ → ℕ × ℕ
+pairAt size first second w i = (field size first w i, field size second w i)
+
+abbrev pub pairs : ℕ → ℕ → ℕ → List ℕ → ℕ → List (ℕ × ℕ)
+pairs size first second w n = map (pairAt size first second w) (range 0 n)

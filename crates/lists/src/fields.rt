@@ -67,6 +67,14 @@ pub fn count_below(w: &[u64], size: usize, at: usize, n: usize, x: u64) -> usize
     lo
 }
 
+// How many are at most x.
+pub fn count_through(w: &[u64], size: usize, at: usize, n: usize, x: u64) -> usize
+    requires { ⌜ (size * n ≤ length (now w)) × (at < size) × (chained leb (fields size at (now w) n) ≡ true) × (x < 18446744073709551615) ⌝ }
+    ensures { λ r. ⌜ r ≡ count (λ y. leb y x) (fields size at (now (w .entry)) n) ⌝ }
+{
+    count_below(w, size, at, n, x + 1)
+}
+
 // The place of x, where they ascend strictly.
 pub fn find_field(w: &[u64], size: usize, at: usize, n: usize, x: u64) -> Found
     requires { ⌜ (size * n ≤ length (now w)) × (at < size) × (chained ltb (fields size at (now w) n) ≡ true) ⌝ }

@@ -1,0 +1,41 @@
+use borrow.Author.Needs.{needs}
+use borrow.Author.Tests.{not-true, not-false}
+use Prim.Native.Nat.{_+_, _-_, _≤_}
+use mathlib.Core.Path.{_≡_, refl, sym, _∙_}
+use native.Mathlib.Omega.{arith}
+use Rattle.lists.specs.Lists.{all}
+use Rattle.lists.specs.Runs.{from}
+use Rattle.lists.proofs.Loops.{all-pass, all-fail, all-end}
+use Rattle.layout.specs.Words.{deleteFileAt}
+use Rattle.ducklake.specs.Soundness.{deleteFilesApart}
+use Rattle.contents.proofs.deletes.delete_file_apart.Statement.{statement}
+use Rattle.contents.proofs.deletes.delete_file_apart.Tie as tie
+
+abbrev Inv-loop : tie.InvT-loop
+Inv-loop run positions starts n i j₀ j =
+    (j ≤ n) × (all (deleteFilesApart (deleteFileAt run positions i)) (from (deleteFileAt run positions) (i + 1) n)
+    ≡ all (deleteFilesApart (deleteFileAt run positions i)) (from (deleteFileAt run positions) j n))
+
+abbrev μ-loop : tie.MeasureT-loop
+μ-loop run positions starts n i j₀ j = n - j
+
+loop-holds : tie.Need-loop-holds Inv-loop μ-loop
+loop-holds c = (omega arith, refl)
+
+returns : tie.Need-returns Inv-loop μ-loop
+returns c =
+    let s = c .before .before in
+    sym (s .before .loop .inv .1 ∙ all-fail _ _ _ _ (s .loop-test .taken) (cc (not-true (c .before .delete-files-apart .result) (c .if1 .taken))))
+
+loop-again : tie.Need-loop-again Inv-loop μ-loop
+loop-again c =
+    let s = c .before .before in
+    (omega arith, s .before .loop .inv .1 ∙ all-pass _ _ _ _ (s .loop-test .taken) (cc (not-false (c .before .delete-files-apart .result) (c .if1 .left))))
+
+returns-2 : tie.Need-returns-2 Inv-loop μ-loop
+returns-2 c = sym (c .before .loop .inv .1 ∙ all-end _ _ _ _ (c .loop-test .left))
+
+pub delete-file-apart-spec : {M : Type 1} → statement M
+delete-file-apart-spec =
+    tie.close
+    (tie.spec Inv-loop μ-loop (λ c. search needs) loop-holds (λ c κs. search needs) returns (λ c. search needs) (λ c. search needs) loop-again returns-2)

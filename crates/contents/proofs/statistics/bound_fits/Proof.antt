@@ -1,0 +1,15 @@
+use borrow.Author.Needs.{needs}
+use mathlib.Core.Path.{refl}
+use mir.Facts.{ofZ-toZ}
+use Rattle.ducklake.specs.Soundness.{boundFits}
+use Rattle.contents.proofs.statistics.bound_fits.Statement.{statement}
+use Rattle.contents.proofs.statistics.bound_fits.Tie as tie
+
+returns : tie.Need-returns
+unfolding boundFits
+returns c = rw (c .in-type .ensures, c .before .to-signed .ensures, ofZ-toZ (c .before .before .fits .word)) refl
+
+pub bound-fits-spec : {M : Type 1} → statement M
+bound-fits-spec =
+    tie.close
+    (tie.spec (λ c κs. search needs) (λ c κs. search needs) returns)

@@ -1,0 +1,64 @@
+-- Records whose keys never fall: those of one key stand together, from the count of smaller keys up to the count of keys not greater.
+use Prim.Native.Nat.{ℕ, suc, _+_, _≤_, _<_}
+use mathlib.Core.Path.{_≡_, refl, sym, ap, _∙_}
+use mathlib.Core.Bool.{Bool, true, false, _&&_, and-true}
+use mathlib.Core.List.{List, map, append-nil}
+use native.Mathlib.Omega.{arith}
+use borrow.Author.Tests.{eq-eqb, ne-eqb, leb-false, leb-true}
+use lib.Dec.{leb, ltb, eqb}
+use Rattle.lists.specs.Lists.{range, all, chained, filter, count}
+use Rattle.lists.specs.Runs.{from}
+use Rattle.lists.proofs.Tests.{if, ltb-suc}
+use Rattle.lists.proofs.Members.{In, in-all}
+use Rattle.lists.proofs.Counts.{count-ext}
+use Rattle.lists.proofs.Loops.{from-all}
+use Rattle.lists.proofs.Places.{from-split, in-from}
+use Rattle.lists.proofs.Selections.{all-append, filter-append, filter-none, filter-all, filter-ext}
+use Rattle.lists.proofs.Search.{less-below, more-above, below-within}
+
+-- a test that all places from m on pass
+pub all-cut : {A : Type 0} (f : ℕ → A) (p : A → Bool) (i m n : ℕ) → i ≤ m → m ≤ n → ((j : ℕ) → m ≤ j → j < n → p (f j) ≡ true) → all p (from f i n) ≡ all p (from f i m)
+all-cut f p i m n h k e =
+    ap (all p) (from-split f i m n h k) ∙ (all-append p (from f i m) (from f m n)
+    ∙ rw (in-all p (from f m n) (λ x l. let r = in-from f m n l in ap p (r .3) ∙ e (r .0) (r .1) (r .2)), and-true) refl)
+
+module _ {A : Type 0} (f : ℕ → A) (key : A → ℕ) (k n a e : ℕ) (c : chained leb (map (λ i. key (f i)) (range 0 n)) ≡ true)
+    (low : a ≡ count (λ y. ltb y k) (map (λ i. key (f i)) (range 0 n))) (high : e ≡ count (λ y. leb y k) (map (λ i. key (f i)) (range 0 n))) where
+  through : e ≡ count (λ y. ltb y (k + 1)) (map (λ i. key (f i)) (range 0 n))
+  through = high ∙ sym (count-ext _ _ (map (λ i. key (f i)) (range 0 n)) (λ y m. ltb-suc y k))
+
+  pub block-before : (i : ℕ) → i < a → key (f i) < k
+  block-before i h = less-below (λ i. key (f i)) k n c a low i h
+
+  pub block-after : (i : ℕ) → e ≤ i → i < n → k < key (f i)
+  block-after i h l = omega (arith, more-above (λ i. key (f i)) (k + 1) n c e through i h l)
+
+  pub block-key : (i : ℕ) → a ≤ i → i < e → key (f i) ≡ k
+  block-key i h l = omega (arith, more-above (λ i. key (f i)) k n c a low i h (omega (arith, below-within (λ i. key (f i)) (k + 1) n c e through)), less-below (λ i. key (f i)) (k + 1) n c e through i l)
+
+  pub block-order : (a ≤ e) × (e ≤ n)
+  block-order = (
+    if (leb a e) (λ s. leb-true a e s) (λ s. absurd (let l = leb-false a e s in omega (arith, block-before e l, block-after e (omega arith) (omega (arith, below-within (λ i. key (f i)) k n c a low))))),
+    below-within (λ i. key (f i)) (k + 1) n c e through,
+  )
+
+  -- what passes among the records of the key
+  pub filter-block : (q : A → Bool) → filter (λ x. eqb (key x) k && q x) (map f (range 0 n)) ≡ filter q (from f a e)
+  filter-block q =
+      ap (filter p) (from-all f n ∙ from-split f 0 a n (omega arith) (omega (arith, block-order .0, block-order .1)))
+      ∙ (filter-append p (from f 0 a) (from f a n) ∙ rw (filter-none p (from f 0 a) (λ x m. let r = in-from f 0 a m in ap p (r .3) ∙ off (r .0) (λ s. omega (arith, block-before (r .0) (r .2)))))
+      (ap (filter p) (from-split f a e n (block-order .0) (block-order .1)) ∙ (filter-append p (from f a e) (from f e n)
+      ∙ rw (filter-none p (from f e n) (λ x m. let r = in-from f e n m in ap p (r .3) ∙ off (r .0) (λ s. omega (arith, block-after (r .0) (r .1) (r .2)))), append-nil)
+      (filter-ext p q (from f a e) (λ x m. let r = in-from f a e m in rw (r .3, eq-eqb _ k (block-key (r .0) (r .1) (r .2))) refl)))))
+    where
+      p : A → Bool
+      p x = eqb (key x) k && q x
+
+      off : (i : ℕ) → (key (f i) ≡ k → ⊥) → p (f i) ≡ false
+      off i s = rw (ne-eqb (key (f i)) k s) refl
+
+  -- the records of the key
+  pub filter-key : filter (λ x. eqb (key x) k) (map f (range 0 n)) ≡ from f a e
+  filter-key =
+      filter-ext _ _ (map f (range 0 n)) (λ x m. sym (and-true (eqb (key x) k)))
+      ∙ (filter-block (λ x. true) ∙ filter-all (λ x. true) (from f a e) (λ x m. refl))

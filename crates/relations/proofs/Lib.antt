@@ -1,0 +1,4 @@
+pub mod Apart
+pub mod FileLists
+pub mod Held
+pub mod Liveness

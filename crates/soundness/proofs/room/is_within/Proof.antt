@@ -1,0 +1,11 @@
+use mathlib.Core.Path.{refl}
+use Rattle.layout.specs.Words.{within}
+use Rattle.soundness.proofs.room.is_within.Statement.{statement}
+use Rattle.soundness.proofs.room.is_within.Tie as tie
+
+returns : tie.Need-returns
+unfolding within
+returns c = refl
+
+pub is-within-spec : {M : Type 1} → statement M
+is-within-spec = tie.close (tie.spec returns)

@@ -1,0 +1,4 @@
+// Whether the lent tables are sound, and what they have room for.
+pub mod check;
+pub mod room;
+pub mod stages;

@@ -1,0 +1,11 @@
+use borrow.Author.Needs.{needs}
+use Rattle.ducklake.specs.Soundness.{deleteFileInRange}
+use Rattle.tables.proofs.ranges.delete_file_in_range.Statement.{statement}
+use Rattle.tables.proofs.ranges.delete_file_in_range.Tie as tie
+
+returns : tie.Need-returns
+unfolding deleteFileInRange
+returns c positions = rw (c .before .before .before .delete-file-at .ensures)
+
+pub delete-file-in-range-spec : {M : Type 1} → statement M
+delete-file-in-range-spec = tie.close (tie.spec (λ c κs. search needs) returns)

@@ -1,0 +1,11 @@
+use borrow.Author.Needs.{needs}
+use Rattle.ducklake.specs.Soundness.{statisticsInRange}
+use Rattle.tables.proofs.ranges.statistics_record_in_range.Statement.{statement}
+use Rattle.tables.proofs.ranges.statistics_record_in_range.Tie as tie
+
+returns : tie.Need-returns
+unfolding statisticsInRange
+returns c = rw (c .before .before .statistics-at .ensures)
+
+pub statistics-record-in-range-spec : {M : Type 1} → statement M
+statistics-record-in-range-spec = tie.close (tie.spec (λ c κs. search needs) returns)
