@@ -1,11 +1,11 @@
 ghost use mathlib.Core.Path.{_≡_};
 ghost use mathlib.Core.Bool.{true, _&&_};
-ghost use mathlib.Core.List.{List, map};
-ghost use Prim.Native.Nat.{ℕ, _+_, _*_, _≤_, _<_};
+ghost use mathlib.Core.List.{map};
+ghost use Prim.Native.Nat.{_+_, _*_, _≤_, _<_};
 ghost use lib.Dec.{ltb};
 ghost use lib.ListN.{length};
 ghost use Rattle.lists.specs.Lists.{range, all, pairwise, chained, has};
-ghost use Rattle.lists.specs.Runs.{from, field, fields, overwrite};
+ghost use Rattle.lists.specs.Runs.{from, fields, overwrite};
 ghost use Rattle.layout.specs.Words.{positionsBefore, deleteCount, dataFilesIn, deleteFileAt, deleteFilesIn};
 ghost use Rattle.ducklake.specs.Soundness.{succeededBy, deleteFilesApart, positionsSound};
 ghost use Rattle.contents.specs.Deletes.{laterSucceeds, Laid};

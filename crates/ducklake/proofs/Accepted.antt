@@ -2,13 +2,13 @@
 use Prim.Native.Nat.{ℕ, suc, _+_, _≤_, _<_}
 use mathlib.Core.Path.{_≡_, refl, sym, ap, _∙_}
 use mathlib.Core.List.{List, [], _∷_, _++_, map, append-nil, flatMap}
-use mathlib.Core.Bool.{Bool, true, false, not, _&&_, _||_}
+use mathlib.Core.Bool.{true, false, not, _||_}
 use native.Mathlib.Omega.{arith}
 use lib.Dec.{eqb, ltb}
 use borrow.Author.Tests.{ne-eqb}
-use Rattle.lists.specs.Lists.{all, any, filter, has, bit, count}
+use Rattle.lists.specs.Lists.{all, filter, has, bit, count}
 use Rattle.lists.proofs.Tests.{if, clash, both}
-use Rattle.layout.specs.Catalog.{absent, numberLimit, Scheduled, Catalog}
+use Rattle.layout.specs.Catalog.{absent, Scheduled, Catalog}
 use Rattle.ducklake.specs.Liveness.{retained, latest, latestId}
 use Rattle.ducklake.specs.Soundness.{fileIds}
 use Rattle.ducklake.specs.Refusals.{badExpiryList, expiresLatest, notRetained, numberTooLarge}

@@ -1,7 +1,6 @@
 -- Readings on words, in terms of the catalog that the words mean.
-use Prim.Native.Nat.{ℕ, zero, suc, _+_, _≤_, _<_}
+use Prim.Native.Nat.{ℕ, suc, _≤_}
 use mathlib.Core.Path.{_≡_, refl, sym, ap, _∙_}
-use mathlib.Core.Logic.{_⊎_, inl, inr}
 use mathlib.Core.List.{List, []}
 use mathlib.Core.Bool.{Bool, true, false, cond, _&&_}
 use native.Mathlib.Omega.{arith}
@@ -11,7 +10,7 @@ use lib.ListN.{length, take, replicate, length-replicate}
 use borrow.Author.Tests.{le-leb, ne-eqb, eqb-true}
 use Rattle.lists.specs.Lists.{any}
 use Rattle.lists.specs.Runs.{overwrite}
-use Rattle.lists.proofs.Tests.{if, either}
+use Rattle.lists.proofs.Tests.{if}
 use Rattle.lists.proofs.Runs.{overwrite-front}
 use Rattle.layout.specs.declared.outcome.Counts.{Counts}
 use Rattle.layout.specs.Catalog.{Catalog}
@@ -21,7 +20,7 @@ use Rattle.ducklake.specs.Liveness.{retained, isLive, columnLive}
 use Rattle.ducklake.specs.Soundness.{sound}
 use Rattle.ducklake.specs.Refusals.{accepted, notSound, shortAnswerArea, notRetained, notLive, need}
 use Rattle.ducklake.specs.Readings.{Query, schemas, tables, columns, tableNamed, files, filteredFiles, rows, tablesNamed, queryAnswer, judgeQuery}
-use Rattle.ducklake.specs.Calls.{Result, queryAt, judgeReading, readingAnswer, readingRefusal, performReading}
+use Rattle.ducklake.specs.Calls.{queryAt, judgeReading, readingAnswer, readingRefusal, performReading}
 use Rattle.ducklake.specs.Claim.{Answer, answerOf, readingOf}
 
 -- tests in a row: they give the rest, or one number whatever the rest

@@ -1,24 +1,22 @@
 -- What every accepted call keeps beyond soundness.
-use Prim.Native.Nat.{ℕ, suc, _+_, _<_}
+use Prim.Native.Nat.{ℕ, suc, _+_}
 use mathlib.Core.Path.{_≡_, refl, sym, ap, subst, _∙_}
 use mathlib.Core.Logic.{_⊎_, inl, inr}
 use mathlib.Core.List.{List, _++_, map}
-use mathlib.Core.Bool.{Bool, true, false, not}
+use mathlib.Core.Bool.{true, false, not}
 use native.Mathlib.Omega.{arith}
-use lib.Dec.{eqb, ltb}
+use lib.Dec.{eqb}
 use lib.ListN.{length}
-use borrow.Author.Tests.{eqb-true, eq-eqb, ltb-true}
+use borrow.Author.Tests.{eqb-true}
 use Rattle.lists.specs.Lists.{has}
 use Rattle.lists.proofs.Tests.{if, either, or-left}
 use Rattle.lists.proofs.Members.{In, here, in-left, in-right, in-map, in-filter, in-filter-of, All, each, Any, all-map, all-append}
 use Rattle.lists.proofs.Selections.{any-append, has-self, has-trans}
-use Rattle.lists.proofs.Counts.{count-pos}
 use Rattle.lists.proofs.Orders.{any-sort}
 use Rattle.layout.specs.declared.record.Uuid.{Uuid}
 use Rattle.layout.specs.Catalog.{absent, Versioned, DataFile, DeleteFile, Catalog}
 use Rattle.ducklake.specs.Liveness.{latest, latestId, isLive, deletedAt}
-use Rattle.ducklake.specs.Soundness.{idsOfFiles, fileIds}
-use Rattle.ducklake.specs.Refusals.{need, notLive}
+use Rattle.ducklake.specs.Refusals.{notLive}
 use Rattle.ducklake.specs.Commits.{Commit, createSchema, createTable, insert, delete, dropTable, dropSchema, Change, close, changeOf, commit, numbersFit}
 use Rattle.ducklake.specs.Maintenance.{expire, cleanup}
 use Rattle.ducklake.specs.Calls.{judgeCommit}

@@ -1,21 +1,19 @@
 -- The numbers of a commit: its snapshot, its limits, and the file numbers that it draws.
 use Prim.Native.Nat.{ℕ, suc, _+_, _≤_, _<_}
-use mathlib.Core.Path.{_≡_, refl}
-use mathlib.Core.List.{List, [], _∷_, map}
+use mathlib.Core.Path.{_≡_}
+use mathlib.Core.List.{List, [], _∷_}
 use native.Mathlib.Omega.{arith}
 use lib.Dec.{ltb, eqb}
 use lib.ListN.{length}
-use borrow.Author.Tests.{eq-eqb, ltb-true}
 use Rattle.lists.specs.Lists.{bit, count}
-use Rattle.lists.proofs.Tests.{Reflects, if, reflects-as, reflects-and, reflects-leb}
-use Rattle.lists.proofs.Members.{In, All, in-map, in-left, in-right, reflects-all}
+use Rattle.lists.proofs.Tests.{Reflects, reflects-as, reflects-and, reflects-leb}
+use Rattle.lists.proofs.Members.{All, reflects-all}
 use Rattle.lists.proofs.Selections.{last-append}
-use Rattle.lists.proofs.Counts.{count-append, count-map, count-pos, one-suc}
-use Rattle.layout.specs.Catalog.{absent, numberLimit, Versioned, Column, DataFile, DeleteFile, Statistics, Catalog}
+use Rattle.lists.proofs.Counts.{count-append, count-map, one-suc}
+use Rattle.layout.specs.Catalog.{absent, numberLimit, Catalog}
 use Rattle.ducklake.specs.Liveness.{noSnapshot, latest}
 use Rattle.ducklake.specs.Soundness.{idsOfFiles, snapshotInRange, fileIds}
 use Rattle.ducklake.specs.Commits.{Change, close, grow, born, commit, nextSnapshot, numbersFit}
-use Rattle.ducklake.proofs.Facts.{Sound}
 use Rattle.ducklake.proofs.Moves.{SmallSnapshot, reflects-small}
 use Rattle.ducklake.proofs.Good.{nextId, Good}
 

@@ -15,7 +15,7 @@ use Rattle.lists.proofs.Counts.{count-append, count-map}
 use Rattle.layout.specs.Catalog.{numberLimit, Versioned, Snapshot, Schema, Table, Column, DataFile, DeleteFile, Catalog}
 use Rattle.layout.specs.Names.{isName}
 use Rattle.ducklake.specs.Liveness.{noSnapshot, latest}
-use Rattle.ducklake.specs.Soundness.{uuidsOfFiles, inLimit, schemaInRange, tableInRange, columnInRange, dataFileInRange, deleteFileInRange, fileUuids, sameUuid}
+use Rattle.ducklake.specs.Soundness.{uuidsOfFiles, inLimit, schemaInRange, tableInRange, columnInRange, dataFileInRange, deleteFileInRange, sameUuid}
 use Rattle.ducklake.specs.Commits.{Change, close, grow, born, commit, nextSnapshot}
 use Rattle.ducklake.proofs.Facts.{Passed, Ranges, Follows, Rise, ById, ByTableAndId, Ascend, Files, Sound}
 use Rattle.ducklake.proofs.Below.{dataFile-below, deleteFile-below, column-below, statistics-below}

@@ -2,13 +2,13 @@
 use Prim.Native.Nat.{ℕ, _+_, _*_, _≤_, _<_}
 use mathlib.Core.Path.{_≡_, refl, sym, ap, _∙_}
 use mathlib.Core.Logic.{inr}
-use mathlib.Core.List.{List, [], map}
+use mathlib.Core.List.{List, map}
 use mathlib.Core.Bool.{Bool, true, false, not, _&&_}
 use native.Mathlib.Omega.{arith}
 use lib.Dec.{eqb}
 use lib.ListN.{length, getD, length-map}
 use borrow.Author.Tests.{leb-true, eq-eqb, ne-eqb}
-use Rattle.lists.specs.Lists.{range, any, filter}
+use Rattle.lists.specs.Lists.{range, any}
 use Rattle.lists.proofs.Tests.{and, reflects-it, reflects-and, reflects-not, reflects-leb, reflects-eqb}
 use Rattle.lists.proofs.Members.{In, here, All, each, Any, Pairwise, in-map-of, in-range, in-filter, not-any, all-one, all-map, pair-one, pair-map, pair-as, pair-and, reflects-all, reflects-pairwise}
 use Rattle.lists.proofs.Selections.{filter-append, filter-none, filter-all}

@@ -2,14 +2,13 @@
 use Prim.Native.Nat.{ℕ}
 use mathlib.Core.Path.{_≡_, refl}
 use mathlib.Core.List.{List, [], _∷_, _++_}
-use mathlib.Core.Bool.{Bool, true}
+use mathlib.Core.Bool.{true}
 use lib.IntN.{pos}
 use lib.ListN.{replicate}
 use Rattle.lists.specs.Lists.{all}
 use Rattle.layout.specs.declared.outcome.Counts.{Counts}
 use Rattle.layout.specs.Records.{uuidOf}
 use Rattle.layout.specs.Catalog.{absent}
-use Rattle.layout.specs.Names.{padded}
 use Rattle.layout.specs.Words.{Words}
 use Rattle.ducklake.specs.Commits.{createTable, insert, delete, dropTable}
 use Rattle.ducklake.specs.Readings.{files, filteredFiles, rows}

@@ -1,24 +1,24 @@
 -- What the tests of soundness tell: `soundCatalog` as a record of facts.
-use Prim.Native.Nat.{ℕ, _+_, _≤_, _<_}
-use mathlib.Core.Path.{_≡_, refl, sym, ap, _∙_}
+use Prim.Native.Nat.{ℕ, _≤_, _<_}
+use mathlib.Core.Path.{_≡_, refl, ap, _∙_}
 use mathlib.Core.Logic.{_⊎_, inl, inr}
-use mathlib.Core.List.{List, _++_, map}
-use mathlib.Core.Bool.{Bool, true, false, not, _&&_, _||_, and-assoc}
+use mathlib.Core.List.{List}
+use mathlib.Core.Bool.{Bool, true, not, _&&_, and-assoc}
 use native.Mathlib.Omega.{arith}
 use lib.Dec.{leb, ltb, eqb}
 use lib.ListN.{length}
 use borrow.Author.Tests.{ltb-true, ltb-false, eq-eqb, ne-eqb}
-use Rattle.lists.specs.Lists.{all, any, pairwise, chained, agree, has, bit, count, before}
+use Rattle.lists.specs.Lists.{all, any, pairwise, chained, has, bit, count, before}
 use Rattle.lists.proofs.Tests.{Reflects, if, either, both, reflects-it, reflects-as, reflects-and, reflects-or, reflects-not, reflects-implies, reflects-implies-both, reflects-implies-either, reflects-leb, reflects-ltb, reflects-eqb}
-use Rattle.lists.proofs.Members.{In, All, each, Any, Pairwise, reflects-all, reflects-any, reflects-pairwise}
+use Rattle.lists.proofs.Members.{All, each, Any, Pairwise, reflects-all, reflects-any, reflects-pairwise}
 use Rattle.lists.proofs.Orders.{reflects-chained}
 use Rattle.lists.proofs.Counts.{count-zero, count-pos, reflects-distinct, bit-le}
 use Rattle.layout.specs.declared.record.Uuid.{Uuid}
-use Rattle.layout.specs.Catalog.{absent, numberLimit, Versioned, Snapshot, Schema, Table, Column, DataFile, DeleteFile, Statistics, Scheduled, Catalog}
+use Rattle.layout.specs.Catalog.{absent, Versioned, Snapshot, Schema, Table, Column, DataFile, DeleteFile, Statistics, Catalog}
 use Rattle.layout.specs.Names.{sameName}
 use Rattle.ducklake.specs.Kinds.{isKind}
 use Rattle.ducklake.specs.Liveness.{live, liveAtSome, latest, latestId, columnsAt}
-use Rattle.ducklake.specs.Soundness.{inLimit, snapshotInRange, schemaInRange, tableInRange, columnInRange, dataFileInRange, deleteFileInRange, statisticsInRange, scheduledInRange, fieldsInRange, follows, snapshotsRise, lifeSound, livesSound, byId, byTableAndId, byFileAndColumn, idsAscend, fileIds, fileUuids, sameUuid, idsBelowNext, filesDistinct, holds, sameLife, tableNests, columnNests, dataFileNests, deleteFileNests, livesNest, overlap, schemasApart, tablesApart, columnsApart, namesApart, succeededBy, deleteFilesApart, positionsSound, deletesSound, rowIdEnd, rowsBefore, rowsInTable, rowRangesSound, statisticsFit, fileStatistics, statisticsWanted, fileStatisticsSound, statisticsOnFile, statisticsSound, columnCountSound, columnCountsSound, soundCatalog}
+use Rattle.ducklake.specs.Soundness.{snapshotInRange, schemaInRange, tableInRange, columnInRange, dataFileInRange, deleteFileInRange, statisticsInRange, scheduledInRange, fieldsInRange, follows, snapshotsRise, lifeSound, livesSound, byId, byTableAndId, byFileAndColumn, idsAscend, fileIds, fileUuids, sameUuid, idsBelowNext, filesDistinct, holds, sameLife, tableNests, columnNests, dataFileNests, deleteFileNests, livesNest, overlap, schemasApart, tablesApart, columnsApart, namesApart, succeededBy, deleteFilesApart, positionsSound, deletesSound, rowIdEnd, rowsBefore, rowsInTable, rowRangesSound, fileStatisticsSound, statisticsOnFile, statisticsSound, columnCountSound, columnCountsSound, soundCatalog}
 
 -- a test that is passed
 abbrev pub Passed : {A : Type 0} → (A → Bool) → A → Type 0

@@ -4,18 +4,16 @@ use mathlib.Core.Path.{_≡_, refl, sym, _∙_}
 use mathlib.Core.List.{List, _++_, map}
 use mathlib.Core.Bool.{Bool, true, _&&_, and-false, or-false}
 use native.Mathlib.Omega.{arith}
-use lib.Dec.{ltb, eqb}
+use lib.Dec.{eqb}
 use lib.IntN.{ℤ}
 use lib.ListN.{length}
-use borrow.Author.Tests.{eqb-true, eq-eqb, ne-eqb, ltb-true}
-use Rattle.lists.specs.Lists.{any, filter, count}
+use borrow.Author.Tests.{eqb-true, eq-eqb, ne-eqb}
+use Rattle.lists.specs.Lists.{any, filter}
 use Rattle.lists.proofs.Tests.{if, clash}
-use Rattle.lists.proofs.Members.{In, in-left, in-map, in-filter, any-in, in-any, All}
+use Rattle.lists.proofs.Members.{In, in-filter, any-in, in-any, All}
 use Rattle.lists.proofs.Selections.{filter-filter, filter-step, any-append, any-filter, any-none}
-use Rattle.lists.proofs.Counts.{count-pos}
 use Rattle.layout.specs.Catalog.{absent, Versioned, DataFile, Statistics, Catalog}
 use Rattle.ducklake.specs.Liveness.{live, liveAtSome, retained, latest, latestId, schemasAt, tablesAt, columnsAt, dataFilesAt, deleteFilesAt, deletedAt, isLive}
-use Rattle.ducklake.specs.Soundness.{idsOfFiles, fileIds}
 use Rattle.ducklake.specs.Commits.{Change, close, grow, born, commit}
 use Rattle.ducklake.specs.Readings.{Query, admits, kept, queryAnswer, judgeQuery}
 use Rattle.ducklake.specs.Maintenance.{expire, cleanup}

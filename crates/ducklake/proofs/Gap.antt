@@ -2,7 +2,7 @@
 -- so that the delete ends nothing and its new delete file lacks position 0. No catalogue grown from a fresh one gets there (`Chain`).
 use Prim.Native.Nat.{ℕ}
 use mathlib.Core.Path.{_≡_, refl}
-use mathlib.Core.List.{List, [], _∷_}
+use mathlib.Core.List.{[], _∷_}
 use mathlib.Core.Bool.{true, false}
 use lib.ListN.{replicate}
 use Rattle.layout.specs.Records.{uuidOf}
@@ -11,7 +11,7 @@ use Rattle.layout.specs.Names.{padded}
 use Rattle.layout.specs.Words.{Words, store, countsOf}
 use Rattle.ducklake.specs.Soundness.{sound}
 use Rattle.ducklake.specs.Commits.{delete}
-use Rattle.ducklake.specs.Calls.{Call, commitAt, Result, perform, noCounts}
+use Rattle.ducklake.specs.Calls.{commitAt, Result, perform, noCounts}
 use Rattle.ducklake.proofs.Sessions.{passes}
 
 snapshot : ℕ → ℕ → ℕ → Snapshot

@@ -1,14 +1,13 @@
 -- What a change has to meet so that the commit leaves sound tables, and what a catalogue grown from a fresh one has beyond soundness.
 use Prim.Native.Nat.{ℕ, suc, _+_, _≤_, _<_}
 use mathlib.Core.Path.{_≡_}
-use mathlib.Core.List.{List, map}
-use mathlib.Core.Bool.{Bool, true}
-use lib.Dec.{eqb}
+use mathlib.Core.List.{List}
+use mathlib.Core.Bool.{true}
 use lib.ListN.{length}
 use Rattle.lists.specs.Lists.{has, count}
 use Rattle.lists.proofs.Members.{In, All, Any, Pairwise}
 use Rattle.layout.specs.declared.record.Uuid.{Uuid}
-use Rattle.layout.specs.Catalog.{absent, numberLimit, Versioned, Schema, Table, Column, DataFile, DeleteFile, Statistics, Catalog}
+use Rattle.layout.specs.Catalog.{absent, numberLimit, Versioned, Schema, Table, Column, DataFile, DeleteFile, Catalog}
 use Rattle.layout.specs.Names.{isName, sameName}
 use Rattle.layout.specs.Types.{isType}
 use Rattle.ducklake.specs.Kinds.{isKind}

@@ -1,38 +1,35 @@
 -- Demand 3: the claim over any list of calls.
-use Prim.Native.Nat.{ℕ, suc, _+_, _≤_, _<_}
+use Prim.Native.Nat.{ℕ, _+_, _≤_, _<_}
 use mathlib.Core.Path.{_≡_, refl, sym, ap, ap₂, subst, _∙_}
-use mathlib.Core.List.{List, [], _∷_, _++_, map}
+use mathlib.Core.List.{List, [], _∷_, _++_}
 use mathlib.Core.Bool.{Bool, true, false, not, cond, _&&_, _||_, and-true, and-false}
 use native.Mathlib.Omega.{arith}
 use native.Mathlib.Nat.{zero-add}
 use lib.Dec.{leb, ltb, eqb}
-use lib.ListN.{length, take, replicate}
-use borrow.Author.Tests.{leb-true, ltb-true, eqb-true, eq-eqb, le-ltb, le-leb}
-use Rattle.lists.specs.Lists.{range, all, any, filter, has, bit, count}
+use lib.ListN.{length, take}
+use borrow.Author.Tests.{eqb-true, le-ltb}
+use Rattle.lists.specs.Lists.{range, filter, has, bit, count}
 use Rattle.lists.specs.Runs.{overwrite}
-use Rattle.lists.proofs.Tests.{if, clash, both, and, same-test}
-use Rattle.lists.proofs.Members.{In}
+use Rattle.lists.proofs.Tests.{if, clash, both}
 use Rattle.lists.proofs.Runs.{overwrite-front}
 use Rattle.lists.proofs.Counts.{count-append, count-map, count-and, count-filter, count-range}
 use Rattle.layout.specs.declared.outcome.Counts.{Counts}
-use Rattle.layout.specs.Catalog.{absent, Scheduled, Catalog}
+use Rattle.layout.specs.Catalog.{absent}
 use Rattle.layout.specs.Words.{Words, load, store, countsOf, capacity, within, fits}
 use Rattle.layout.proofs.RoundTrip.{load-store, fits-store}
-use Rattle.ducklake.specs.Liveness.{retained, latest, latestId}
-use Rattle.ducklake.specs.Soundness.{soundCatalog, sound, fileIds}
+use Rattle.ducklake.specs.Liveness.{latest, latestId}
+use Rattle.ducklake.specs.Soundness.{sound, fileIds}
 use Rattle.ducklake.specs.Refusals.{accepted, noRoom, notSound}
-use Rattle.ducklake.specs.Readings.{Query, rows, queryAnswer, judgeQuery}
-use Rattle.ducklake.specs.Calls.{Call, commitAt, expireSnapshots, cleanUp, judgeCall, effect, answer, hasRoom, refusal, Result, perform, performFresh}
-use Rattle.ducklake.specs.Journal.{Journal}
-use Rattle.ducklake.specs.Claim.{Step, Fallen, State, isRetained, Answer, readingOf, isListed, journalAfter, expiredBy, fileIdsOf, handedBy, timeOf, advanced, fallenBetween, acceptedStep, refusedStep, step, run, freshState, Holds, Claim}
-use Rattle.ducklake.proofs.Facts.{Sound, reflects-sound}
+use Rattle.ducklake.specs.Calls.{Call, commitAt, expireSnapshots, cleanUp, judgeCall, effect, answer, hasRoom, refusal, Result, perform}
+use Rattle.ducklake.specs.Claim.{Step, State, isListed, journalAfter, expiredBy, fileIdsOf, handedBy, timeOf, advanced, fallenBetween, acceptedStep, refusedStep, step, run}
+use Rattle.ducklake.proofs.Facts.{Sound}
 use Rattle.ducklake.proofs.Needs.{need-passed}
 use Rattle.ducklake.proofs.Good.{Chain}
-use Rattle.ducklake.proofs.Answers.{answered, any-area, reading-is}
-use Rattle.ducklake.proofs.Retained.{Tally, retained-below}
-use Rattle.ducklake.proofs.Journals.{JournalOk, Shows}
-use Rattle.ducklake.proofs.Listed.{fileListed, listed-count, falls, entry, Falls}
-use Rattle.ducklake.proofs.Tables.{named, catalogOf, Tables, sound-words, retained-is, listed-is}
+use Rattle.ducklake.proofs.Answers.{answered}
+use Rattle.ducklake.proofs.Retained.{Tally}
+use Rattle.ducklake.proofs.Journals.{JournalOk}
+use Rattle.ducklake.proofs.Listed.{fileListed, falls, entry}
+use Rattle.ducklake.proofs.Tables.{named, catalogOf, Tables, listed-is}
 use Rattle.ducklake.proofs.Accepted.{judge-call, Stays, Moved, moved}
 
 -- an accepted call: its number is 0, and it leaves the stored catalog

@@ -1,22 +1,22 @@
 -- How a commit moves records on: an old one stays or is closed, a new one is born.
-use Prim.Native.Nat.{ℕ, zero, suc, _+_, _≤_, _<_}
-use mathlib.Core.Path.{_≡_, refl, sym, ap, _∙_}
+use Prim.Native.Nat.{ℕ, suc, _+_, _≤_, _<_}
+use mathlib.Core.Path.{_≡_, refl, ap}
 use mathlib.Core.Logic.{_⊎_, inl, inr}
-use mathlib.Core.List.{List, [], _∷_, _++_, map}
-use mathlib.Core.Bool.{Bool, true, false, not, _&&_, _||_}
+use mathlib.Core.List.{List, [], _∷_}
+use mathlib.Core.Bool.{Bool, true, false, _&&_}
 use native.Mathlib.Omega.{arith}
 use lib.Dec.{eqb}
 use lib.ListN.{length}
 use borrow.Author.Tests.{eqb-true, eq-eqb}
 use Rattle.lists.specs.Lists.{any, last}
 use Rattle.lists.proofs.Tests.{Reflects, if, either, clash, both, same-test, reflects-as, reflects-and, reflects-leb}
-use Rattle.lists.proofs.Members.{In, here, next, in-cons, in-nil, All, each, Pairwise, none, more, any-in, in-any}
+use Rattle.lists.proofs.Members.{In, here, next, in-cons, in-nil, All, each, Pairwise, none, more}
 use Rattle.lists.proofs.Selections.{last-in, pair-last}
 use Rattle.layout.specs.Catalog.{absent, numberLimit, Versioned, Snapshot, Table, Catalog}
-use Rattle.ducklake.specs.Liveness.{live, liveAtSome, noSnapshot, latest, latestId}
+use Rattle.ducklake.specs.Liveness.{live, noSnapshot, latest, latestId}
 use Rattle.ducklake.specs.Soundness.{snapshotInRange}
 use Rattle.ducklake.specs.Commits.{close, grow, born}
-use Rattle.ducklake.proofs.Facts.{reflects-live, ById, Follows, Rise, Ranges, Life, Sound}
+use Rattle.ducklake.proofs.Facts.{reflects-live, ById, Life, Sound}
 
 -- a record moves on to snapshot n
 pub record Step {A : Type 0} (n : ℕ) (v w : Versioned A) : Type 0 where

@@ -1,23 +1,22 @@
 -- What a change has to meet, part by part: a part that adds nothing, or ends nothing, meets its own.
 use Prim.Native.Nat.{_+_, _≤_, _<_}
-use mathlib.Core.Path.{_≡_, refl, sym, ap, _∙_}
-use mathlib.Core.List.{[], _++_, map}
+use mathlib.Core.Path.{_≡_, sym, ap, _∙_}
+use mathlib.Core.List.{[], map}
 use mathlib.Core.Bool.{true, false}
 use native.Mathlib.Omega.{arith}
-use lib.Dec.{ltb, eqb}
 use lib.ListN.{length}
-use borrow.Author.Tests.{not-true, ltb-true, eq-eqb}
+use borrow.Author.Tests.{not-true}
 use Rattle.lists.specs.Lists.{any, count, bit}
 use Rattle.lists.proofs.Tests.{if, clash, same-test}
 use Rattle.lists.proofs.Members.{In, All, Any, Pairwise, none, all-nil, in-map, in-left, in-right}
-use Rattle.lists.proofs.Counts.{count-none, count-pos}
+use Rattle.lists.proofs.Counts.{count-none}
 use Rattle.lists.proofs.Selections.{any-ext}
 use Rattle.layout.specs.declared.record.Uuid.{Uuid}
 use Rattle.layout.specs.Catalog.{absent, Versioned, Schema, Table, Column, DataFile, DeleteFile, Catalog}
 use Rattle.layout.specs.Names.{isName, sameName}
 use Rattle.ducklake.specs.Kinds.{isKind}
 use Rattle.ducklake.specs.Liveness.{latest, columnsAt}
-use Rattle.ducklake.specs.Soundness.{idsOfFiles, statisticsInRange, fileIds, fileUuids, sameUuid, fileStatisticsSound}
+use Rattle.ducklake.specs.Soundness.{statisticsInRange, fileUuids, sameUuid, fileStatisticsSound}
 use Rattle.ducklake.specs.Commits.{Change, addsNothing, grow, nextSnapshot, commit, numbersFit}
 use Rattle.ducklake.specs.Calls.{uuidFree}
 use Rattle.ducklake.proofs.Facts.{Passed, Sound, ByTableAndId, ByFileAndColumn, TableIn, ColumnIn, DataFileIn, DeleteFileIn, SchemasApart, TablesApart, ColumnsApart, SucceededBy, DeleteFilesApart, Positions, RowsBefore, RowsIn, reflects-uuid}

@@ -1,21 +1,21 @@
 -- Which snapshots the tables hold: those made and never named by an accepted expiry.
 use Prim.Native.Nat.{ℕ, suc, _≤_, _<_}
 use mathlib.Core.Path.{_≡_, refl, sym, ap, subst, _∙_}
-use mathlib.Core.List.{List, [], _∷_, _++_, append-nil}
+use mathlib.Core.List.{List, [], _∷_, _++_}
 use mathlib.Core.Bool.{Bool, true, false, not, _&&_, _||_, or-false, or-true}
 use native.Mathlib.Omega.{arith}
 use lib.Dec.{leb, eqb}
 use borrow.Author.Tests.{leb-true, le-leb, eqb-true, eqb-false}
 use Rattle.lists.specs.Lists.{all, any, filter, has}
 use Rattle.lists.proofs.Tests.{if, both, and, same-test}
-use Rattle.lists.proofs.Members.{In, All, each, in-filter, in-filter-of, any-in, in-any, all-in, all-append}
+use Rattle.lists.proofs.Members.{All, each, in-filter, in-filter-of, any-in, in-any, all-in, all-append}
 use Rattle.lists.proofs.Selections.{any-append}
 use Rattle.layout.specs.Catalog.{Catalog}
-use Rattle.ducklake.specs.Liveness.{retained, latest, latestId}
+use Rattle.ducklake.specs.Liveness.{retained, latestId}
 use Rattle.ducklake.specs.Commits.{Change, nextSnapshot, commit}
 use Rattle.ducklake.specs.Maintenance.{expire, cleanup}
 use Rattle.ducklake.proofs.Facts.{Sound}
-use Rattle.ducklake.proofs.Moves.{latest-in, below-latest}
+use Rattle.ducklake.proofs.Moves.{below-latest}
 use Rattle.ducklake.proofs.Commit.{commit-latest}
 use Rattle.ducklake.proofs.Expire.{expire-latest}
 

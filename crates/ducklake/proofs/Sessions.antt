@@ -1,6 +1,6 @@
 -- Sessions that compute: calls played from Fresh on lent tables, with every definition open.
 use Prim.Native.Nat.{ℕ}
-use mathlib.Core.List.{List, [], _∷_, map, flatMap}
+use mathlib.Core.List.{List, [], _∷_, flatMap}
 use mathlib.Core.Bool.{Bool, _&&_}
 use lib.Dec.{eqb}
 use lib.ListN.{length, take}
@@ -13,10 +13,10 @@ use Rattle.layout.specs.Types.{types, isType, inType}
 use Rattle.layout.specs.Words.{Words, positionsBefore, load, store, countsOf, capacity, within, fits}
 use Rattle.ducklake.specs.Kinds.{isKind, raisesSchemaVersion}
 use Rattle.ducklake.specs.Liveness.{live, liveAtSome, retained, schemasAt, tablesAt, columnsAt, dataFilesAt, deleteFilesAt, deletedAt, isLive, columnLive, tableOfId, dataFileOfId}
-use Rattle.ducklake.specs.Soundness.{uuidsOfFiles, idsOfFiles, isRecordCount, snapshotInRange, schemaInRange, tableInRange, columnInRange, dataFileInRange, deleteFileInRange, statisticsInRange, scheduledInRange, fieldsInRange, follows, snapshotsRise, lifeSound, livesSound, byTableAndId, byFileAndColumn, idsAscend, fileIds, fileUuids, sameUuid, idsBelowNext, filesDistinct, holds, sameLife, tableNests, columnNests, dataFileNests, deleteFileNests, livesNest, overlap, schemasApart, tablesApart, columnsApart, namesApart, succeededBy, deleteFilesApart, positionsSound, deletesSound, rowsBefore, rowsInTable, rowRangesSound, boundFits, statisticsFit, fileStatistics, statisticsWanted, fileStatisticsSound, statisticsOnFile, statisticsSound, columnCountSound, columnCountsSound, soundCatalog, sound}
+use Rattle.ducklake.specs.Soundness.{uuidsOfFiles, idsOfFiles, isRecordCount, snapshotInRange, schemaInRange, tableInRange, columnInRange, dataFileInRange, deleteFileInRange, statisticsInRange, scheduledInRange, fieldsInRange, follows, snapshotsRise, lifeSound, livesSound, byTableAndId, byFileAndColumn, idsAscend, sameUuid, idsBelowNext, filesDistinct, holds, sameLife, tableNests, columnNests, dataFileNests, deleteFileNests, livesNest, overlap, schemasApart, tablesApart, columnsApart, namesApart, succeededBy, deleteFilesApart, positionsSound, deletesSound, rowsBefore, rowsInTable, rowRangesSound, boundFits, statisticsFit, fileStatistics, statisticsWanted, fileStatisticsSound, statisticsOnFile, statisticsSound, columnCountSound, columnCountsSound, soundCatalog, sound}
 use Rattle.ducklake.specs.Arguments.{clashes, newColumns, columnsFit, newStatistics, statisticsArgumentFits, positionsFit, expiryListFits}
-use Rattle.ducklake.specs.Commits.{Commit, freshCatalog, close, grow, nextSnapshot, commit, numbersFit, changeOf}
-use Rattle.ducklake.specs.Readings.{Query, tablesNamed, listed, admits, kept, fileRows, queryAnswer, judgeQuery, snapshotsByTime, lookup}
+use Rattle.ducklake.specs.Commits.{freshCatalog, close, grow, nextSnapshot, commit, numbersFit, changeOf}
+use Rattle.ducklake.specs.Readings.{tablesNamed, listed, admits, kept, fileRows, queryAnswer, judgeQuery, snapshotsByTime, lookup}
 use Rattle.ducklake.specs.Maintenance.{expire, handedOut, cleanup}
 use Rattle.ducklake.specs.Calls.{Call, Result, Reading, uuidFree, offends, judgeCommit, judgeCall, effect, answer, hasRoom, refusal, placeOf, perform, performFresh, judgeReading, readingAnswer, readingRefusal, performReading}
 

@@ -1,30 +1,30 @@
 -- What holds of the tables after every call, and that `isListed` of a state is `fileListed` of its catalog.
-use Prim.Native.Nat.{ℕ, suc, _+_, _≤_, _<_}
+use Prim.Native.Nat.{ℕ, suc, _<_}
 use mathlib.Core.Path.{_≡_, refl, sym, ap, ap₂, _∙_}
 use mathlib.Core.List.{List}
-use mathlib.Core.Bool.{Bool, true, false, not, _&&_}
+use mathlib.Core.Bool.{Bool, true, not, _&&_}
 use native.Mathlib.Omega.{arith}
 use lib.Dec.{leb, eqb}
 use lib.ListN.{length}
 use borrow.Author.Tests.{eqb-true, eq-eqb}
 use Rattle.lists.specs.Lists.{range, any, has}
-use Rattle.lists.proofs.Tests.{Reflects, if, both, and, same-test, reflects-and, reflects-it, reflects-leb, reflects-eqb}
-use Rattle.lists.proofs.Members.{In, All, each, Any, any-in, in-any, in-range, range-in}
-use Rattle.layout.specs.Catalog.{absent, numberLimit, Versioned, Snapshot, Schema, Table, Column, Catalog}
+use Rattle.lists.proofs.Tests.{if, both, and, same-test}
+use Rattle.lists.proofs.Members.{In, each, Any, any-in, in-any, range-in}
+use Rattle.layout.specs.Catalog.{Snapshot, Catalog}
 use Rattle.layout.specs.Names.{nameSize, isName, namedThenZero}
 use Rattle.layout.specs.Types.{isType}
-use Rattle.layout.specs.Words.{Words, load, fits}
+use Rattle.layout.specs.Words.{load, fits}
 use Rattle.layout.proofs.RoundTrip.{Named}
-use Rattle.ducklake.specs.Liveness.{live, retained, latest, latestId, isLive}
-use Rattle.ducklake.specs.Soundness.{inLimit, isFlag, schemaInRange, tableInRange, columnInRange, soundCatalog, sound}
-use Rattle.ducklake.specs.Refusals.{accepted, notLive, need}
+use Rattle.ducklake.specs.Liveness.{live, retained, latest, isLive}
+use Rattle.ducklake.specs.Soundness.{inLimit, isFlag, schemaInRange, tableInRange, columnInRange, sound}
+use Rattle.ducklake.specs.Refusals.{accepted}
 use Rattle.ducklake.specs.Readings.{files, queryAnswer, judgeQuery}
 use Rattle.ducklake.specs.Claim.{State, isRetained, readingOf, isListed}
 use Rattle.ducklake.proofs.Facts.{Sound, reflects-sound}
 use Rattle.ducklake.proofs.Moves.{below-latest}
 use Rattle.ducklake.proofs.Good.{Chain}
-use Rattle.ducklake.proofs.Answers.{answered, reading-is}
-use Rattle.ducklake.proofs.Retained.{Tally, retained-below}
+use Rattle.ducklake.proofs.Answers.{reading-is}
+use Rattle.ducklake.proofs.Retained.{Tally}
 use Rattle.ducklake.proofs.Journals.{JournalOk}
 use Rattle.ducklake.proofs.Listed.{fileListed}
 

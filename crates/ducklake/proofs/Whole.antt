@@ -1,34 +1,33 @@
 -- Demand 3, proved: a fresh catalogue has what every call keeps, and what every call keeps is the claim.
-use Prim.Native.Nat.{ℕ, zero, suc, _+_, _≤_, _<_}
+use Prim.Native.Nat.{ℕ, _+_}
 use mathlib.Core.Path.{_≡_, refl, sym, ap, ap₂, subst, _∙_}
-use mathlib.Core.List.{List, [], _∷_, _++_, map}
-use mathlib.Core.Bool.{Bool, true, false, not, cond, _&&_, _||_, or-false, and-true, false≢true}
+use mathlib.Core.List.{List, []}
+use mathlib.Core.Bool.{true, false, cond, _&&_, _||_, or-false, and-true, false≢true}
 use native.Mathlib.Omega.{arith}
 use lib.Dec.{leb, ltb, eqb, leb·zero}
-use lib.ListN.{length}
 use borrow.Author.Tests.{leb-true, ltb-true, eqb-true, eq-eqb, le-ltb, le-leb}
-use Rattle.lists.specs.Lists.{all, any, last, has, bit, count}
-use Rattle.lists.proofs.Tests.{if, clash, both, same-test}
+use Rattle.lists.specs.Lists.{any, last, bit, count}
+use Rattle.lists.proofs.Tests.{if, same-test}
 use Rattle.lists.proofs.Members.{in-nil, all-nil}
 use Rattle.layout.specs.declared.outcome.Counts.{Counts}
 use Rattle.layout.specs.Catalog.{absent, Catalog}
 use Rattle.layout.specs.Words.{Words, load, store, countsOf, capacity, within, fits}
 use Rattle.layout.proofs.RoundTrip.{load-store, fits-store}
-use Rattle.ducklake.specs.Liveness.{retained, latest, latestId, isLive}
+use Rattle.ducklake.specs.Liveness.{retained, latest, isLive}
 use Rattle.ducklake.specs.Soundness.{idsOfFiles, soundCatalog, fileIds}
 use Rattle.ducklake.specs.Refusals.{accepted, notLive, need}
 use Rattle.ducklake.specs.Commits.{freshCatalog}
-use Rattle.ducklake.specs.Readings.{Query, rows, queryAnswer, judgeQuery}
-use Rattle.ducklake.specs.Calls.{hasRoom, Result, noCounts, performFresh}
-use Rattle.ducklake.specs.Journal.{TableRows, Journal, emptyJournal}
-use Rattle.ducklake.specs.Claim.{Step, State, isRetained, readingOf, isListed, run, freshState, Holds, Claim}
+use Rattle.ducklake.specs.Readings.{Query, rows, judgeQuery}
+use Rattle.ducklake.specs.Calls.{hasRoom, noCounts, performFresh}
+use Rattle.ducklake.specs.Journal.{emptyJournal}
+use Rattle.ducklake.specs.Claim.{State, isRetained, readingOf, isListed, run, freshState, Holds, Claim}
 use Rattle.ducklake.proofs.Facts.{Sound, reflects-sound}
 use Rattle.ducklake.proofs.Good.{Chain}
 use Rattle.ducklake.proofs.Sessions.{passes}
 use Rattle.ducklake.proofs.Answers.{answered, any-area, reading-is}
 use Rattle.ducklake.proofs.Retained.{Tally, retained-below}
-use Rattle.ducklake.proofs.Journals.{JournalOk, Shows}
-use Rattle.ducklake.proofs.Listed.{fileListed, listed-count, fileIds-count, entry}
+use Rattle.ducklake.proofs.Journals.{JournalOk}
+use Rattle.ducklake.proofs.Listed.{listed-count, fileIds-count, entry}
 use Rattle.ducklake.proofs.Tables.{named, catalogOf, Tables, sound-words, retained-is, listed-is}
 use Rattle.ducklake.proofs.Histories.{Inv, Later, run-inv}
 

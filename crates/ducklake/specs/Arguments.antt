@@ -1,7 +1,7 @@
 -- The arguments of commits that are lists: flat runs of words, and of bytes for names.
 use Prim.Native.Nat.{ℕ, _+_, _*_, _/_}
 use mathlib.Core.Bool.{Bool, true, not, _&&_}
-use mathlib.Core.List.{List, map, _∷_, []}
+use mathlib.Core.List.{List, map}
 use lib.Dec.{leb, ltb, eqb}
 use lib.ListN.{length, getD}
 use Rattle.lists.specs.Lists.{range, all, any, pairwise, chained, agree}

@@ -1,13 +1,13 @@
 -- Demand 3: one claim about any list of calls from a fresh catalogue.
 use Prim.Native.Nat.{ℕ, suc, _+_}
 use mathlib.Core.Path.{_≡_}
-use mathlib.Core.Bool.{Bool, true, false, not, cond, _&&_, _||_}
+use mathlib.Core.Bool.{Bool, true, not, cond, _&&_, _||_}
 use mathlib.Core.List.{List, [], _∷_, _++_, map}
 use lib.Dec.{leb, ltb, eqb}
 use lib.ListN.{length, take, replicate}
 use Rattle.lists.specs.Lists.{range, any, filter, has, bit, count}
 use Rattle.layout.specs.declared.outcome.Counts.{Counts}
-use Rattle.layout.specs.Catalog.{absent, Scheduled}
+use Rattle.layout.specs.Catalog.{absent}
 use Rattle.layout.specs.Words.{Words, load}
 use Rattle.ducklake.specs.Liveness.{retained}
 use Rattle.ducklake.specs.Refusals.{accepted, shortAnswerArea, notLive, need}

@@ -1,7 +1,7 @@
 -- The kinds of change that a snapshot records.
 use Prim.Native.Nat.{ℕ}
 use mathlib.Core.Bool.{Bool}
-use mathlib.Core.List.{List, [], _∷_}
+use mathlib.Core.List.{[], _∷_}
 use Rattle.lists.specs.Lists.{has}
 
 -- "Kinds: 1 created_schema, 2 created_table, 3 inserted_into_table, 4 deleted_from_table, 6 dropped_schema, 7 dropped_table"

@@ -1,7 +1,7 @@
 -- Lives, snapshots, and what is live at a snapshot.
 use Prim.Native.Nat.{ℕ}
 use mathlib.Core.Bool.{Bool, _&&_, _||_}
-use mathlib.Core.List.{List, map, flatMap}
+use mathlib.Core.List.{List, flatMap}
 use lib.Dec.{leb, ltb, eqb}
 use Rattle.lists.specs.Lists.{any, filter, find, last}
 use Rattle.layout.specs.Records.{uuidOf}

@@ -8,7 +8,7 @@ use lib.ListN.{take, drop}
 use lib.Signed.{leZ}
 use Rattle.lists.specs.declared.Found.{Found}
 use Rattle.lists.specs.declared.Found.the-variants.{At, Nothing}
-use Rattle.lists.specs.Lists.{range, any, filter, place, has, highest, sortBy}
+use Rattle.lists.specs.Lists.{range, any, filter, place, has, sortBy}
 use Rattle.lists.specs.Runs.{Layout}
 use Rattle.layout.specs.declared.outcome.Counts.{Counts}
 use Rattle.layout.specs.Records.{dataFileLayout, deleteFileLayout}
@@ -16,7 +16,7 @@ use Rattle.layout.specs.Catalog.{absent, Versioned, Snapshot, Table, DataFile, 
 use Rattle.layout.specs.Names.{isNameArgument, padded, sameName}
 use Rattle.layout.specs.Types.{signed}
 use Rattle.layout.specs.Words.{Words, load}
-use Rattle.ducklake.specs.Liveness.{live, schemasAt, tablesAt, columnsAt, dataFilesAt, deleteFilesAt, deletedAt, isLive, columnLive}
+use Rattle.ducklake.specs.Liveness.{schemasAt, tablesAt, columnsAt, dataFilesAt, deleteFilesAt, deletedAt, isLive, columnLive}
 use Rattle.ducklake.specs.Soundness.{sound}
 use Rattle.ducklake.specs.Refusals.{notSound, notLive, need}
 

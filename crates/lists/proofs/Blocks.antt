@@ -1,15 +1,15 @@
 -- Records whose keys never fall: those of one key stand together, from the count of smaller keys up to the count of keys not greater.
-use Prim.Native.Nat.{ℕ, suc, _+_, _≤_, _<_}
+use Prim.Native.Nat.{ℕ, _+_, _≤_, _<_}
 use mathlib.Core.Path.{_≡_, refl, sym, ap, _∙_}
 use mathlib.Core.Bool.{Bool, true, false, _&&_, and-true}
-use mathlib.Core.List.{List, map, append-nil}
+use mathlib.Core.List.{map, append-nil}
 use native.Mathlib.Omega.{arith}
 use borrow.Author.Tests.{eq-eqb, ne-eqb, leb-false, leb-true}
 use lib.Dec.{leb, ltb, eqb}
 use Rattle.lists.specs.Lists.{range, all, chained, filter, count}
 use Rattle.lists.specs.Runs.{from}
 use Rattle.lists.proofs.Tests.{if, ltb-suc}
-use Rattle.lists.proofs.Members.{In, in-all}
+use Rattle.lists.proofs.Members.{in-all}
 use Rattle.lists.proofs.Counts.{count-ext}
 use Rattle.lists.proofs.Loops.{from-all}
 use Rattle.lists.proofs.Places.{from-split, in-from}

@@ -1,12 +1,12 @@
 -- Loops: what each comes to from the present turn on. The laws `-start`, `-pass`, `-fail`, `-next`, `-end` are cited at a function's needs.
-use Prim.Native.Nat.{ℕ, zero, suc, _+_, _*_, _-_, _≤_, _<_, max}
-use mathlib.Core.Path.{_≡_, refl, sym, ap, ap₂, _∙_}
+use Prim.Native.Nat.{ℕ, zero, suc, _+_, _*_, _-_, _≤_, _<_}
+use mathlib.Core.Path.{_≡_, refl, ap, ap₂, _∙_}
 use mathlib.Core.List.{List, [], _∷_, _++_, map, flatMap, append-assoc, append-nil}
-use mathlib.Core.Bool.{Bool, true, false, cond, not, _&&_, _||_}
+use mathlib.Core.Bool.{Bool, true, false, not}
 use native.Mathlib.Omega.{arith}
 use native.Mathlib.Numerals.{add-one}
 use native.Mathlib.Nat.{mul-zero, mul-le-mul-left, mul-suc, add-zero, add-suc, zero-add, suc-add}
-use lib.ListN.{length, take, drop, set, replicate, length-map}
+use lib.ListN.{length, take, set, replicate, length-map}
 use Rattle.lists.specs.Lists.{range, all, pairwise, chained, filter, place}
 use Rattle.lists.specs.declared.Found.the-variants.{At, Nothing}
 use Rattle.lists.specs.Runs.{from, overwrite, replace, Layout, at, table}

@@ -4,7 +4,7 @@ use mathlib.Core.Path.{_≡_, refl, sym, ap, subst, _∙_}
 use mathlib.Core.Logic.{_⊎_, inl, inr}
 use mathlib.Core.List.{List, [], _∷_, _++_, map, flatMap}
 pub use mathlib.Core.List.{List·Memᴰ as In, List·Memᴰ·head as here, List·Memᴰ·tail as next, List·Memᴰ·cases-cons as in-cons, List·Memᴰ·append-cases as in-append, Memᴰ·append-left as in-left, Memᴰ·append-right as in-right}
-use mathlib.Core.Bool.{Bool, true, false, _&&_, _||_, false≢true, not}
+use mathlib.Core.Bool.{Bool, true, false≢true, not}
 use native.Mathlib.Nat.{eq-or-lt-of-le}
 use native.Mathlib.Omega.{arith}
 use Rattle.lists.specs.Lists.{range, all, any, pairwise, filter, find, has}

@@ -1,14 +1,13 @@
 -- Sorting by a key, and ascending lists.
-use Prim.Native.Nat.{ℕ, zero, suc, _+_, _≤_, _<_}
-use mathlib.Core.Path.{_≡_, refl, sym, ap, ap₂, _∙_}
-use mathlib.Core.Logic.{_⊎_, inl, inr}
-use mathlib.Core.List.{List, [], _∷_, _++_, map}
-use mathlib.Core.Bool.{Bool, true, false, cond, _&&_, _||_}
+use Prim.Native.Nat.{ℕ, zero, suc, _<_}
+use mathlib.Core.Path.{_≡_, refl, ap, ap₂, _∙_}
+use mathlib.Core.List.{List, [], _∷_, map}
+use mathlib.Core.Bool.{Bool, true, false, _&&_, _||_}
 use native.Mathlib.Omega.{arith}
-use lib.Dec.{leb, eqb}
+use lib.Dec.{leb}
 use lib.ListN.{length}
 use borrow.Author.Tests.{leb-true, leb-false}
-use Rattle.lists.specs.Lists.{all, any, pairwise, chained, has, insertBy, sortBy, range, agree}
+use Rattle.lists.specs.Lists.{all, any, pairwise, chained, insertBy, sortBy, range, agree}
 use Rattle.lists.proofs.Tests.{Reflects, if, either, both, and, clash}
 use Rattle.lists.proofs.Members.{In, here, next, All, each, Pairwise, none, more, all-nil, all-cons, all-one, pair-one, all-in, in-all, reflects-pairwise, in-cons, in-nil, in-range}
 

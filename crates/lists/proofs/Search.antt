@@ -1,18 +1,17 @@
 -- Words that ascend: how many are below a number, and where a number stands among them.
-use Prim.Native.Nat.{ℕ, zero, suc, _+_, _-_, _≤_, _<_}
-use mathlib.Core.Path.{_≡_, refl, sym, ap, _∙_, subst}
+use Prim.Native.Nat.{ℕ, _+_, _-_, _≤_, _<_}
+use mathlib.Core.Path.{_≡_, refl, sym, ap, _∙_}
 use mathlib.Core.Logic.{⊎-elim}
 use mathlib.Core.List.{List, map}
-use mathlib.Core.Bool.{Bool, true, false, cond, not, _&&_}
+use mathlib.Core.Bool.{Bool, true, false, not, _&&_}
 use native.Mathlib.Omega.{arith}
-use native.Mathlib.Numerals.{add-one}
 use native.Mathlib.Nat.{eq-or-lt-of-le, zero-add}
 use borrow.Author.Tests.{lt-ltb, le-ltb, le-leb, ltb-true, ltb-false, leb-true, leb-false, eq-eqb, eqb-true, ne-eqb}
 use lib.Dec.{leb, ltb, eqb}
 use lib.ListN.{length}
 use Rattle.lists.specs.declared.Found.{Found}
 use Rattle.lists.specs.declared.Found.the-variants.{At, Nothing}
-use Rattle.lists.specs.Lists.{range, all, any, pairwise, chained, before, count, place}
+use Rattle.lists.specs.Lists.{range, any, pairwise, chained, before, count, place}
 use Rattle.lists.specs.Runs.{from, field, fields, pairAt, pairs}
 use Rattle.lists.proofs.Tests.{if, either, or-cases, both, and, same-test, reflects-ltb, reflects-eqb, reflects-not}
 use Rattle.lists.proofs.Members.{any-in, in-any, in-map, in-map-of, in-range, range-in, pair-as, reflects-pairwise, In}

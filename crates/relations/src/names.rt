@@ -5,7 +5,6 @@ ghost use lib.Dec.{leb};
 ghost use lib.ListN.{length};
 ghost use Rattle.lists.specs.Lists.{all, pairwise, chained};
 ghost use Rattle.lists.specs.Runs.{from, fields};
-ghost use Rattle.layout.specs.Catalog.{numberLimit};
 ghost use Rattle.layout.specs.Words.{schemaAt, schemasIn, tableAt, tablesIn, columnAt, columnsIn};
 ghost use Rattle.ducklake.specs.Soundness.{inLimit, schemasApart, tablesApart, columnsApart};
 use layout::name::same_name;

@@ -6,7 +6,7 @@ ghost use lib.Dec.{ltb, eqb};
 ghost use lib.ListN.{length};
 ghost use Rattle.lists.specs.Lists.{all, any, chained};
 ghost use Rattle.lists.specs.Runs.{fields};
-ghost use Rattle.layout.specs.Words.{schemasIn, tableAt, tablesIn, columnAt, columnsIn, dataFileAt, dataFilesIn, deleteFileAt, deleteFilesIn};
+ghost use Rattle.layout.specs.Words.{schemasIn, tablesIn, columnAt, columnsIn, dataFilesIn, deleteFileAt, deleteFilesIn};
 ghost use Rattle.ducklake.specs.Soundness.{holds, tableNests, columnNests, dataFileNests, deleteFileNests};
 ghost use Rattle.lookup.specs.Versions.{withLife, versionsIn};
 use layout::number::CatalogId;

@@ -2,7 +2,7 @@ ghost use mathlib.Core.Path.{_≡_};
 ghost use Prim.Native.Nat.{_*_, _/_, _≤_, _<_, min};
 ghost use lib.Dec.{eqb};
 ghost use lib.ListN.{length};
-ghost use Rattle.layout.specs.Words.{lent, positionsBefore, capacity, within, fits, tableLimit, positionLimit};
+ghost use Rattle.layout.specs.Words.{lent, positionsBefore, capacity, within};
 use layout::outcome::Counts;
 use lists::fields::field_at;
 

@@ -1,7 +1,5 @@
 use borrow.Author.Needs.{needs}
 use mathlib.Core.Path.{_∙_}
-use native.Mathlib.Omega.{arith}
-use lib.Dec.{leb, ltb}
 use Rattle.lists.proofs.Counts.{count-ext}
 use Rattle.lists.proofs.Tests.{ltb-suc}
 use Rattle.lists.proofs.fields.count_through.Statement.{statement}

@@ -1,5 +1,4 @@
-use borrow.Author.Needs.{needs}
-use mathlib.Core.Path.{_≡_, sym, _∙_}
+use mathlib.Core.Path.{sym, _∙_}
 use Rattle.lists.proofs.Runs.{record-fits}
 use Rattle.lists.proofs.Search.{ascending-weakly, sought-past, sought-here, sought-not}
 use Rattle.lists.proofs.fields.find_field.Statement.{statement}

@@ -1,5 +1,5 @@
 use borrow.Author.Needs.{needs}
-use mathlib.Core.Path.{_≡_, refl, sym, ap, _∙_}
+use mathlib.Core.Path.{sym, ap, _∙_}
 use Rattle.lists.proofs.Runs.{record-fits}
 use Rattle.lists.proofs.Places.{found-tells, any-nowhere}
 use Rattle.lists.proofs.Search.{any-found}

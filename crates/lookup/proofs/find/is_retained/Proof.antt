@@ -1,9 +1,9 @@
 use borrow.Author.Needs.{needs}
 use Prim.Native.Nat.{ℕ}
-use mathlib.Core.Path.{_≡_, refl, sym, ap, _∙_}
+use mathlib.Core.Path.{_≡_, sym, ap, _∙_}
 use mathlib.Core.List.{List}
 use lib.Dec.{eqb}
-use Rattle.lists.specs.Lists.{range, any, place}
+use Rattle.lists.specs.Lists.{range, place}
 use Rattle.lists.specs.Runs.{field, fields}
 use Rattle.lists.proofs.Places.{isAt, any-place}
 use Rattle.lists.proofs.Selections.{any-map}

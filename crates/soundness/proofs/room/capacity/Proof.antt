@@ -1,8 +1,7 @@
 use borrow.Author.Needs.{needs}
 use Prim.Native.Nat.{ℕ, _/_, min}
-use mathlib.Core.Path.{_≡_, refl, ap, _∙_}
+use mathlib.Core.Path.{_≡_, refl}
 use lib.ListN.{length}
-use Rattle.layout.specs.declared.outcome.Counts.{Counts}
 use Rattle.layout.specs.Words.{Words, capacity}
 use Rattle.soundness.proofs.room.capacity.Statement.{statement}
 use Rattle.soundness.proofs.room.capacity.Tie as tie

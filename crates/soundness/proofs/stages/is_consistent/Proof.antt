@@ -1,4 +1,3 @@
-use mathlib.Core.Path.{_∙_}
 use native.Mathlib.Omega.{arith}
 use Rattle.layout.proofs.Room.{fitting}
 use Rattle.soundness.proofs.Steps.{ordering, placing, consistent-is}

@@ -1,0 +1,25 @@
+use borrow.Author.Needs.{needs}
+use Prim.Native.Nat.{_-_, _≤_}
+use mathlib.Core.Path.{_≡_, refl}
+use native.Mathlib.Omega.{arith}
+use lib.ListN.{length}
+use Rattle.io.proofs.Counting.{counts}
+use Rattle.soundness_cases.proofs.text.numbers.Statement.{statement}
+use Rattle.soundness_cases.proofs.text.numbers.Tie as tie
+
+abbrev Inv-loop : tie.InvT-loop
+Inv-loop line out₀ count₀ number₀ i₀ out count number i = (1 ≤ i) × (count ≤ length out) × (length out ≡ length out₀)
+
+abbrev μ-loop : tie.MeasureT-loop
+μ-loop line out₀ count₀ number₀ i₀ out count number i = length line - i
+
+loop-holds : tie.Need-loop-holds Inv-loop μ-loop
+loop-holds c = (omega arith, omega arith, refl)
+
+returns : tie.Need-returns Inv-loop μ-loop
+returns c = counts _ _ (c .before .loop .inv .1)
+
+pub numbers-spec : {M : Type 1} → statement M
+numbers-spec =
+    tie.close
+    (tie.spec Inv-loop μ-loop loop-holds (λ c. search needs) (λ c. search needs) (λ c κs. search needs) (λ c. search needs) (λ c κs. search needs) (λ c κs. search needs) (λ c κs. search needs) (λ c. search needs) (λ c. search needs) (λ c. search needs) (λ c. search needs) returns)
