@@ -1,6 +1,6 @@
 .PHONY: test run
 
-# Proves every crate from nothing, tries the must-fail edits, runs the programs, and looks up the names of docs/PAPER-MAP.md.
+# Proves every crate from nothing, tries the must-fail edits, runs the programs and the scripts of tests/.
 test:
 	@sh tests/run
 
