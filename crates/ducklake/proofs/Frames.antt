@@ -13,7 +13,7 @@ use Rattle.lists.proofs.Tests.{if, clash}
 use Rattle.lists.proofs.Members.{In, in-filter, any-in, in-any, All}
 use Rattle.lists.proofs.Selections.{filter-filter, filter-step, any-append, any-filter, any-none}
 use Rattle.layout.specs.Catalog.{absent, Versioned, DataFile, Statistics, Catalog}
-use Rattle.ducklake.specs.Liveness.{live, liveAtSome, retained, latest, latestId, schemasAt, tablesAt, columnsAt, dataFilesAt, deleteFilesAt, deletedAt, isLive}
+use Rattle.ducklake.specs.Liveness.{live, liveAtSome, retained, latest, latestId, columnsAt, isLive}
 use Rattle.ducklake.specs.Commits.{Change, close, grow, born, commit}
 use Rattle.ducklake.specs.Readings.{Query, admits, kept, queryAnswer, judgeQuery}
 use Rattle.ducklake.specs.Maintenance.{expire, cleanup}
@@ -21,7 +21,7 @@ use Rattle.ducklake.proofs.Facts.{Sound}
 use Rattle.ducklake.proofs.Below.{dataFile-below}
 use Rattle.ducklake.proofs.Moves.{Step, close-step, table-step, live-step, in-born, live-born}
 use Rattle.ducklake.proofs.Good.{nextId, schemaNext, tableNext, columnNext, dataFileNext, deleteFileNext}
-use Rattle.ducklake.proofs.Alike.{Carried, carried-same, Alike, same-tables, same-columns, same-dataFiles, same-deleteFiles, same-deleted, same-schemaLive, same-tableLive, same-judge, same-answer}
+use Rattle.ducklake.proofs.Alike.{Carried, carried-same, Alike, same-columns, same-tableLive, same-judge, same-answer}
 
 -- before n, what is born at n is not live, and what moves on at n is live where it was
 abbrev carried-step : {A B : Type 0} {s n : ℕ} (seen : A → B) (k : ℕ) (f : Versioned A → Versioned A) (xs : List (Versioned A)) (new : List A) → s < n → n < absent
@@ -49,31 +49,9 @@ module _ (C : Catalog) (d : Change) (s : ℕ) (old : s ≤ latestId C) (small : 
       h : s < nextId C d
       h = omega arith
 
-  pub commit-schemas : schemasAt (commit C d .schemas) s ≡ map (schemaNext C d) (schemasAt (C .schemas) s)
-  unfolding schemasAt commit-alike
-  commit-schemas = commit-alike .schemas .lives
-
-  pub commit-tables : (k : ℕ) → tablesAt (commit C d .tables) s k ≡ map (tableNext C d) (tablesAt (C .tables) s k)
-  unfolding commit-alike
-  commit-tables k = same-tables commit-alike k
-
   pub commit-columns : (k : ℕ) → columnsAt (commit C d .columns) s k ≡ map (columnNext C d) (columnsAt (C .columns) s k)
   unfolding commit-alike
   commit-columns k = same-columns commit-alike k
-
-  pub commit-dataFiles : (k : ℕ) → dataFilesAt (commit C d .dataFiles) s k ≡ map (dataFileNext C d) (dataFilesAt (C .dataFiles) s k)
-  unfolding commit-alike
-  commit-dataFiles k = same-dataFiles commit-alike k
-
-  pub commit-deleteFiles : (k : ℕ) → deleteFilesAt (commit C d .deleteFiles) s k ≡ map (deleteFileNext C d) (deleteFilesAt (C .deleteFiles) s k)
-  unfolding commit-alike
-  commit-deleteFiles k = same-deleteFiles commit-alike k
-
-  pub commit-deleted : (k : ℕ) → deletedAt (commit C d .deleteFiles) s k ≡ deletedAt (C .deleteFiles) s k
-  commit-deleted k = same-deleted commit-alike k
-
-  pub commit-schemaLive : (k : ℕ) → isLive (commit C d .schemas) s k ≡ isLive (C .schemas) s k
-  commit-schemaLive k = same-schemaLive commit-alike k
 
   pub commit-tableLive : (k : ℕ) → isLive (commit C d .tables) s k ≡ isLive (C .tables) s k
   commit-tableLive k = same-tableLive commit-alike k

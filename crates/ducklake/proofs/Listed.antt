@@ -6,7 +6,7 @@ use mathlib.Core.List.{List, [], _∷_, map}
 use mathlib.Core.Bool.{Bool, true, false, not, cond, _&&_, _||_}
 use native.Mathlib.Omega.{arith}
 use lib.Dec.{eqb, leb, ltb}
-use borrow.Author.Tests.{eqb-true, eq-eqb, ne-eqb, ltb-true}
+use borrow.Author.Tests.{eqb-true, eq-eqb, ne-eqb}
 use Rattle.lists.specs.Lists.{any, filter, has, bit, count}
 use Rattle.lists.proofs.Tests.{if, either, clash, both, and, same-test, leb-not-ltb}
 use Rattle.lists.proofs.Members.{In, here, next, in-cons, in-nil, Any, in-map, in-map-of, in-filter, in-filter-of, any-in, in-any, reflects-has, pair-two, in-flatMap, in-flatMap-of}
@@ -126,13 +126,6 @@ module _ (C : Catalog) (S : Sound C) where
         count-zero (λ f. eqb (f .id) k) (C .dataFiles) (λ f m. ne-eqb (f .id) k (λ q. clash (data-listed f m) (rw q l))),
         count-zero (λ d. eqb (d .id) k) (C .deleteFiles) (λ d m. ne-eqb (d .id) k (λ q. clash (delete-listed d m) (rw q l))),
       ))
-
-  pub listed-below : (k : ℕ) → k < absent → fileListed C k ≡ true → k < latest C .nextFileId
-  listed-below k h l =
-      let c : 1 ≡ records C k = rw l at (listed-count k h) in
-      let o = S .files .ids k in
-      if (ltb k (latest C .nextFileId)) (λ b. ltb-true k (latest C .nextFileId) b)
-      (λ b. let z : count (λ i. eqb i k) (fileIds C) ≤ 0 = rw b at o in absurd (omega (arith, fileIds-count C k)))
 
 -- a file of C′ that C lists or has not registered, and that C′ lists nowhere
 abbrev pub falls : Catalog → Catalog → ℕ → Bool

@@ -45,9 +45,6 @@ pub close-other : {A : Type 0} (n : ℕ) (p : Versioned A → Bool) (v : Version
 unfolding close
 close-other n p v h = rw h
 
-pub close-ended : {A : Type 0} (n : ℕ) (p : Versioned A → Bool) (v : Versioned A) → (v .end ≡ absent → ⊥) → close n p v .end ≡ v .end
-close-ended n p v h = either (close-step n p v .end) (λ e. e) (λ e. absurd (h (e .0)))
-
 -- what a record was that was closed
 pub close-cases : {A : Type 0} (n : ℕ) (p : Versioned A → Bool) (v : Versioned A)
     → (close n p v .end ≡ v .end) ⊎ ((p v ≡ true) × (v .end ≡ absent))
