@@ -3,6 +3,7 @@ pub mod Counts
 pub mod Keys
 pub mod Layouts
 pub mod Loops
+pub mod Marking
 pub mod Matches
 pub mod Members
 pub mod Memory

@@ -2,7 +2,7 @@
 use Prim.Native.Nat.{ℕ, zero, suc, _+_, _*_, _-_, _≤_, _<_}
 use mathlib.Core.Path.{_≡_, refl, ap, ap₂, _∙_}
 use mathlib.Core.List.{List, [], _∷_, _++_, map, flatMap, append-assoc, append-nil}
-use mathlib.Core.Bool.{Bool, true, false, not}
+use mathlib.Core.Bool.{Bool, true, false, not, and-false}
 use native.Mathlib.Omega.{arith}
 use native.Mathlib.Numerals.{add-one}
 use native.Mathlib.Nat.{mul-zero, mul-le-mul-left, mul-suc, add-zero, add-suc, zero-add, suc-add}
@@ -126,6 +126,25 @@ module _ {A : Type 0} (f : ℕ → A) where
     pub pairwise-end : (i n : ℕ) → n ≤ i → pairwise r (from f i n) ≡ true
     unfolding pairwise
     pairwise-end i n h = rw (from-end i n h) refl
+
+    -- a loop that goes down, from n to 0: k is the place below i
+
+    pub pairwise-below : (i k n : ℕ) → i ≡ k + 1 → i ≤ n → all (r (f k)) (from f (k + 1) n) ≡ true → pairwise r (from f i n) ≡ true → pairwise r (from f k n) ≡ true
+    unfolding pairwise
+    pairwise-below i k n p h e q = rw (from-step k n (omega arith), e, ← p, q) refl
+
+    pairwise-earlier : (i n : ℕ) → i ≤ n → pairwise r (from f i n) ≡ false → pairwise r (from f 0 n) ≡ false
+    unfolding pairwise
+    pairwise-earlier zero n h e = e
+    pairwise-earlier (suc i) n h e = pairwise-earlier i n (omega arith) (rw (from-step i n (omega arith), add-one i, e, and-false) refl)
+
+    pub pairwise-breaks : (i k n : ℕ) → i ≡ k + 1 → i ≤ n → all (r (f k)) (from f (k + 1) n) ≡ false → pairwise r (map f (range 0 n)) ≡ false
+    unfolding pairwise
+    pairwise-breaks i k n p h e = pairwise-start n ∙ pairwise-earlier k n (omega arith) (rw (from-step k n (omega arith), e) refl)
+
+    pub pairwise-done : (i n : ℕ) → i ≤ 0 → pairwise r (from f i n) ≡ true → pairwise r (map f (range 0 n)) ≡ true
+    pairwise-done zero n h e = pairwise-start n ∙ e
+    pairwise-done (suc i) n h e = absurd (omega (arith, h))
 
     pub chained-end : (i n : ℕ) → n ≤ i + 1 → chained r (from f i n) ≡ true
     unfolding chained

@@ -1,6 +1,8 @@
 -- Runs of words, and records of one size in them.
-use Prim.Native.Nat.{ℕ, _+_, _*_, _-_, max}
+use Prim.Native.Nat.{ℕ, _+_, _*_, _-_, _%_, max}
 use mathlib.Core.List.{List, _++_, map}
+use mathlib.Core.Bool.{Bool}
+use lib.Dec.{eqb}
 use lib.ListN.{length, getD, take, drop, replicate}
 use Rattle.lists.specs.Lists.{range}
 
@@ -43,3 +45,10 @@ pairAt size first second w i = (field size first w i, field size second w i)
 
 abbrev pub pairs : ℕ → ℕ → ℕ → List ℕ → ℕ → List (ℕ × ℕ)
 pairs size first second w n = map (pairAt size first second w) (range 0 n)
+
+-- marks, one for each remainder: whether a number has its own, which it shares with every other of that remainder
+abbrev pub markCount : ℕ
+markCount = 65536
+
+unfoldable pub marked : List ℕ → ℕ → Bool
+marked marks x = eqb (getD marks (x % markCount) 0) 1

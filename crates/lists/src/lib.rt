@@ -1,5 +1,6 @@
 // Lists, runs of words and records in runs: definitions in specs/, laws in proofs/, and what the words at one place of every record tell.
 pub mod fields;
+pub mod marks;
 pub mod pairs;
 pub mod subset;
 

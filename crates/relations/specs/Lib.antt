@@ -1,1 +1,2 @@
+pub mod NameKeys
 pub mod Uuids

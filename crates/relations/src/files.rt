@@ -5,15 +5,17 @@ ghost use Prim.Native.Nat.{ℕ, _+_, _*_, _≤_, _<_};
 ghost use lib.Dec.{ltb, eqb};
 ghost use lib.ListN.{length};
 ghost use Rattle.lists.specs.Lists.{all, pairwise, chained};
-ghost use Rattle.lists.specs.Runs.{from, fields};
+ghost use Rattle.lists.specs.Runs.{from, fields, markCount, marked};
 ghost use Rattle.layout.specs.Words.{snapshotsIn, schemasIn, tablesIn, dataFilesIn, deleteFilesIn, scheduledIn};
 ghost use Rattle.ducklake.specs.Liveness.{latestOf};
 ghost use Rattle.ducklake.specs.Soundness.{sameUuid, idsOfFiles, uuidsOfFiles};
-ghost use Rattle.relations.specs.Uuids.{uuidAt, uuidsIn};
+ghost use Rattle.relations.specs.Uuids.{uuidAt, uuidsIn, uuidKey};
 use layout::outcome::Counts;
 use layout::record::Uuid;
 use lists::fields::field_at;
 use lists::fields::fields_below;
+use lists::marks::is_marked;
+use lists::marks::mark;
 use lists::pairs::fields_differ;
 use lists::pairs::none_in;
 use lookup::find::latest_snapshot;
@@ -54,7 +56,7 @@ pub fn ids_below_next(
     a & b & (c & (d & e))
 }
 
-// Whether no file id occurs twice. Data files and delete files ascend; the scheduled table is in no order, and its ids are compared all with all.
+// Whether no file id occurs twice. Data files and delete files ascend; the scheduled table is in no order.
 fn file_ids_differ(
     data_files: &[u64],
     n: usize,
@@ -87,11 +89,33 @@ fn uuid_at(w: &[u64], size: usize, at: usize, i: usize) -> Uuid
     Uuid { high, low }
 }
 
-// Whether a UUID differs from those of the records from `start` on.
-fn uuid_differs(u: Uuid, w: &[u64], size: usize, at: usize, start: usize, n: usize) -> bool
-    requires { ⌜ (size * n ≤ length (now w)) × (at + 1 < size) × (start ≤ n) ⌝ }
+// What a UUID is marked by: equal UUIDs have equal keys.
+fn uuid_key(u: Uuid) -> u64
+    ensures { λ r. ⌜ r ≡ uuidKey u ⌝ }
+{
+    40503 * (u.high % 65536) + u.low % 65536
+}
+
+// Whether a UUID differs from those of the records from `start` on, all of them marked. Few others share a mark with it, so it seldom meets one.
+fn uuid_differs(
+    u: Uuid,
+    marks: &[u8],
+    w: &[u64],
+    size: usize,
+    at: usize,
+    start: usize,
+    n: usize,
+) -> bool
+    requires { ⌜ (length (now marks) ≡ markCount)
+        × (size * n ≤ length (now w)) × (at + 1 < size) × (start ≤ n)
+        × ((j : ℕ) → start ≤ j → j < n → marked (now marks) (uuidKey (uuidAt size at (now w) j)) ≡ true) ⌝ }
     ensures { λ r. ⌜ r ≡ all (λ v. not (sameUuid u v)) (from (uuidAt size at (now (w .entry))) start n) ⌝ }
 {
+    let key = uuid_key(u);
+    let known = is_marked(marks, key);
+    if !known {
+        return true;
+    }
     let mut i = start;
     while i < n {
         let v = uuid_at(w, size, at, i);
@@ -103,31 +127,51 @@ fn uuid_differs(u: Uuid, w: &[u64], size: usize, at: usize, start: usize, n: usi
     true
 }
 
-// UUIDs are in no order, and are compared all with all: of one table, and of one table with another.
+// Of one table, from its end: each UUID against those after it.
 fn uuids_differ(w: &[u64], size: usize, at: usize, n: usize) -> bool
     requires { ⌜ (size * n ≤ length (now w)) × (at + 1 < size) ⌝ }
     ensures { λ r. ⌜ r ≡ pairwise (λ u v. not (sameUuid u v)) (uuidsIn size at (now (w .entry)) n) ⌝ }
 {
-    let mut i: usize = 0;
-    while i < n {
-        let u = uuid_at(w, size, at, i);
-        let ok = uuid_differs(u, w, size, at, i + 1, n);
+    let mut marks = [0u8; 65536];
+    let mut i = n;
+    while 0 < i {
+        let u = uuid_at(w, size, at, i - 1);
+        let ok = uuid_differs(u, &marks, w, size, at, i, n);
         if !ok {
             return false;
         }
-        i += 1;
+        let key = uuid_key(u);
+        mark(&mut marks, key);
+        i -= 1;
     }
     true
 }
 
+fn mark_uuids(marks: &mut [u8], w: &[u64], size: usize, at: usize, n: usize)
+    requires { ⌜ (length (now marks) ≡ markCount) × (size * n ≤ length (now w)) × (at + 1 < size) ⌝ }
+    ensures { λ _. ⌜ (length (now (marks .exit)) ≡ markCount)
+        × ((j : ℕ) → j < n → marked (now (marks .exit)) (uuidKey (uuidAt size at (now (w .entry)) j)) ≡ true) ⌝ }
+{
+    let mut i = n;
+    while 0 < i {
+        let u = uuid_at(w, size, at, i - 1);
+        let key = uuid_key(u);
+        mark(marks, key);
+        i -= 1;
+    }
+}
+
+// Of one table and another, whose UUIDs are marked first.
 fn uuids_apart(a: &[u64], n: usize, b: &[u64], size: usize, at: usize, m: usize) -> bool
     requires { ⌜ (8 * n ≤ length (now a)) × (size * m ≤ length (now b)) × (at + 1 < size) ⌝ }
     ensures { λ r. ⌜ r ≡ all (λ u. all (λ v. not (sameUuid u v)) (uuidsIn size at (now (b .entry)) m)) (uuidsIn 8 6 (now (a .entry)) n) ⌝ }
 {
+    let mut marks = [0u8; 65536];
+    mark_uuids(&mut marks, b, size, at, m);
     let mut i: usize = 0;
     while i < n {
         let u = uuid_at(a, 8, 6, i);
-        let ok = uuid_differs(u, b, size, at, 0, m);
+        let ok = uuid_differs(u, &marks, b, size, at, 0, m);
         if !ok {
             return false;
         }

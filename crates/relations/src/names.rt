@@ -1,21 +1,40 @@
 ghost use mathlib.Core.Path.{_≡_};
 ghost use mathlib.Core.Bool.{true, _&&_};
-ghost use Prim.Native.Nat.{_+_, _*_, _≤_, _<_};
+ghost use Prim.Native.Nat.{ℕ, _+_, _*_, _≤_, _<_};
 ghost use lib.Dec.{leb};
 ghost use lib.ListN.{length};
 ghost use Rattle.lists.specs.Lists.{all, pairwise, chained};
-ghost use Rattle.lists.specs.Runs.{from, fields};
+ghost use Rattle.lists.specs.Runs.{from, fields, markCount, marked};
+ghost use Rattle.layout.specs.Names.{nameAt};
 ghost use Rattle.layout.specs.Words.{schemaAt, schemasIn, tableAt, tablesIn, columnAt, columnsIn};
 ghost use Rattle.ducklake.specs.Soundness.{inLimit, schemasApart, tablesApart, columnsApart};
+ghost use Rattle.relations.specs.NameKeys.{nameKey};
 use layout::name::same_name;
 use layout::outcome::Counts;
 use lists::fields::count_through;
 use lists::fields::field_at;
+use lists::marks::is_marked;
+use lists::marks::mark;
 use lookup::life::life_at;
 use lookup::life::lives_overlap;
 
-// Names are in no order. Of schemas and of tables all pairs are compared, ids and lives before names; columns stand by table, and only
-// those of one table are compared.
+// Names are in no order. Of schemas and of tables each is compared, ids and lives before names, with those after it that are marked like it, and few
+// are; columns stand by table, and only those of one table are compared.
+
+// What a name is marked by: equal names have equal keys.
+fn name_key(names: &[u8], i: usize) -> u64
+    requires { ⌜ 32 * i + 32 ≤ length (now names) ⌝ }
+    ensures { λ r. ⌜ r ≡ nameKey 0 (nameAt (now (names .entry)) i) ⌝ }
+{
+    let a = 32 * i;
+    let mut key: u64 = 0;
+    let mut k: usize = 0;
+    while k < 32 {
+        key = (31 * key + names[a + k] as u64) % 65536;
+        k += 1;
+    }
+    key
+}
 
 // Whether two schemas that share a live number have different names.
 fn schemas_apart(schemas: &[u64], names: &[u8], i: usize, j: usize) -> bool
@@ -32,10 +51,17 @@ fn schemas_apart(schemas: &[u64], names: &[u8], i: usize, j: usize) -> bool
     !same
 }
 
-fn schema_apart(schemas: &[u64], names: &[u8], i: usize, n: usize) -> bool
-    requires { ⌜ (3 * n ≤ length (now schemas)) × (32 * n ≤ length (now names)) × (i < n) ⌝ }
+// Whether the schema i, of that key, and those after it, whose names are all marked, are apart.
+fn schema_apart(schemas: &[u64], names: &[u8], marks: &[u8], key: u64, i: usize, n: usize) -> bool
+    requires { ⌜ (3 * n ≤ length (now schemas)) × (32 * n ≤ length (now names)) × (i < n)
+        × (length (now marks) ≡ markCount) × (key ≡ nameKey 0 (nameAt (now names) i))
+        × ((j : ℕ) → i + 1 ≤ j → j < n → marked (now marks) (nameKey 0 (nameAt (now names) j)) ≡ true) ⌝ }
     ensures { λ r. ⌜ r ≡ all (schemasApart (schemaAt (now (schemas .entry)) (now (names .entry)) i)) (from (schemaAt (now (schemas .entry)) (now (names .entry))) (i + 1) n) ⌝ }
 {
+    let known = is_marked(marks, key);
+    if !known {
+        return true;
+    }
     let mut j = i + 1;
     while j < n {
         let ok = schemas_apart(schemas, names, i, j);
@@ -51,13 +77,16 @@ fn all_schemas_apart(schemas: &[u64], names: &[u8], n: usize) -> bool
     requires { ⌜ (3 * n ≤ length (now schemas)) × (32 * n ≤ length (now names)) ⌝ }
     ensures { λ r. ⌜ r ≡ pairwise schemasApart (schemasIn (now (schemas .entry)) (now (names .entry)) n) ⌝ }
 {
-    let mut i: usize = 0;
-    while i < n {
-        let ok = schema_apart(schemas, names, i, n);
+    let mut marks = [0u8; 65536];
+    let mut i = n;
+    while 0 < i {
+        let key = name_key(names, i - 1);
+        let ok = schema_apart(schemas, names, &marks, key, i - 1, n);
         if !ok {
             return false;
         }
-        i += 1;
+        mark(&mut marks, key);
+        i -= 1;
     }
     true
 }
@@ -82,10 +111,17 @@ fn tables_apart(tables: &[u64], names: &[u8], i: usize, j: usize) -> bool
     !same
 }
 
-fn table_apart(tables: &[u64], names: &[u8], i: usize, n: usize) -> bool
-    requires { ⌜ (5 * n ≤ length (now tables)) × (32 * n ≤ length (now names)) × (i < n) ⌝ }
+// Whether the table i, of that key, and those after it, whose names are all marked, are apart.
+fn table_apart(tables: &[u64], names: &[u8], marks: &[u8], key: u64, i: usize, n: usize) -> bool
+    requires { ⌜ (5 * n ≤ length (now tables)) × (32 * n ≤ length (now names)) × (i < n)
+        × (length (now marks) ≡ markCount) × (key ≡ nameKey 0 (nameAt (now names) i))
+        × ((j : ℕ) → i + 1 ≤ j → j < n → marked (now marks) (nameKey 0 (nameAt (now names) j)) ≡ true) ⌝ }
     ensures { λ r. ⌜ r ≡ all (tablesApart (tableAt (now (tables .entry)) (now (names .entry)) i)) (from (tableAt (now (tables .entry)) (now (names .entry))) (i + 1) n) ⌝ }
 {
+    let known = is_marked(marks, key);
+    if !known {
+        return true;
+    }
     let mut j = i + 1;
     while j < n {
         let ok = tables_apart(tables, names, i, j);
@@ -101,13 +137,16 @@ fn all_tables_apart(tables: &[u64], names: &[u8], n: usize) -> bool
     requires { ⌜ (5 * n ≤ length (now tables)) × (32 * n ≤ length (now names)) ⌝ }
     ensures { λ r. ⌜ r ≡ pairwise tablesApart (tablesIn (now (tables .entry)) (now (names .entry)) n) ⌝ }
 {
-    let mut i: usize = 0;
-    while i < n {
-        let ok = table_apart(tables, names, i, n);
+    let mut marks = [0u8; 65536];
+    let mut i = n;
+    while 0 < i {
+        let key = name_key(names, i - 1);
+        let ok = table_apart(tables, names, &marks, key, i - 1, n);
         if !ok {
             return false;
         }
-        i += 1;
+        mark(&mut marks, key);
+        i -= 1;
     }
     true
 }

@@ -8,42 +8,48 @@ use lib.Dec.{eqb}
 use Rattle.lists.specs.Lists.{all}
 use Rattle.lists.specs.Runs.{from, field}
 use Rattle.lists.proofs.Loops.{all-pass, all-fail, all-end}
+use Rattle.lists.proofs.Marking.{field-unmarked}
 use Rattle.lists.proofs.Runs.{record-fits}
 use Rattle.lists.proofs.pairs.differs_from_later.Statement.{statement}
 use Rattle.lists.proofs.pairs.differs_from_later.Tie as tie
 
 abbrev Inv-loop : tie.InvT-loop
-Inv-loop w size at i n x j₀ j = (j ≤ n) × (all (λ y. not (eqb (field size at w i) y)) (from (field size at w) (i + 1) n) ≡ all (λ y. not (eqb (field size at w i) y)) (from (field size at w) j n))
+Inv-loop w marks size at i n x known j₀ j = (j ≤ n) × (all (λ y. not (eqb (field size at w i) y)) (from (field size at w) (i + 1) n) ≡ all (λ y. not (eqb (field size at w i) y)) (from (field size at w) j n))
 
 abbrev μ-loop : tie.MeasureT-loop
-μ-loop w size at i n x j₀ j = n - j
+μ-loop w marks size at i n x known j₀ j = n - j
 
 field-at-requires : tie.Need-field-at-requires Inv-loop μ-loop
-field-at-requires c κs = let s = c .before .pre in (record-fits _ (s .2) (s .0), s .1)
+field-at-requires c κs = let s = c .before .before .pre in (record-fits _ (s .2) (s .0), s .1)
 
 loop-holds : tie.Need-loop-holds Inv-loop μ-loop
 loop-holds c = (omega arith, refl)
 
-field-at-requires-2 : tie.Need-field-at-requires-2 Inv-loop μ-loop
-field-at-requires-2 c κs = let s = c .before .before .before .before .pre in (record-fits _ (c .loop-test .taken) (s .0), s .1)
-
 returns : tie.Need-returns Inv-loop μ-loop
 returns c =
+    let s = c .before .before in
+    sym (field-unmarked _ _ _ _ _ _ (s .before .before .before .pre .4) (s .field-at .ensures) (c .before .is-marked .ensures) (c .if1 .taken))
+
+field-at-requires-2 : tie.Need-field-at-requires-2 Inv-loop μ-loop
+field-at-requires-2 c κs = let s = c .before .before .before .before .before .before .before .pre in (record-fits _ (c .loop-test .taken) (s .0), s .1)
+
+returns-2 : tie.Need-returns-2 Inv-loop μ-loop
+returns-2 c =
     let s = c .before .before .before in
-    sym (s .loop .inv .1 ∙ all-fail _ _ _ _ (c .before .before .loop-test .taken) (ap not (eq-eqb _ _ (sym (s .before .field-at .ensures) ∙ (c .if1 .taken ∙ c .before .field-at2 .ensures)))))
+    sym (s .loop .inv .1 ∙ all-fail _ _ _ _ (c .before .before .loop-test .taken) (ap not (eq-eqb _ _ (sym (s .before .before .before .field-at .ensures) ∙ (c .if2 .taken ∙ c .before .field-at2 .ensures)))))
 
 loop-again : tie.Need-loop-again Inv-loop μ-loop
 loop-again c =
     let s = c .before .before .before in (
       omega arith,
       s .loop .inv .1 ∙ all-pass _ _ _ _ (c .before .before .loop-test .taken)
-          (ap not (ne-eqb _ _ (λ e. c .if1 .left (s .before .field-at .ensures ∙ (e ∙ sym (c .before .field-at2 .ensures)))))),
+          (ap not (ne-eqb _ _ (λ e. c .if2 .left (s .before .before .before .field-at .ensures ∙ (e ∙ sym (c .before .field-at2 .ensures)))))),
     )
 
-returns-2 : tie.Need-returns-2 Inv-loop μ-loop
-returns-2 c = sym (c .before .loop .inv .1 ∙ all-end _ _ _ _ (c .loop-test .left))
+returns-3 : tie.Need-returns-3 Inv-loop μ-loop
+returns-3 c = sym (c .before .loop .inv .1 ∙ all-end _ _ _ _ (c .loop-test .left))
 
 pub differs-from-later-spec : {M : Type 1} → statement M
 differs-from-later-spec =
     tie.close
-    (tie.spec Inv-loop μ-loop field-at-requires (λ c. search needs) loop-holds field-at-requires-2 returns (λ c. search needs) (λ c. search needs) loop-again returns-2)
+    (tie.spec Inv-loop μ-loop field-at-requires (λ c κs. search needs) returns (λ c. search needs) loop-holds field-at-requires-2 returns-2 (λ c. search needs) (λ c. search needs) loop-again returns-3)
