@@ -1,5 +1,3 @@
-// 'Sound tables', how records stand to each other: lives and snapshots, ids and UUIDs of files, lives within lives, names.
-pub mod files;
+// 'Sound tables', how lives stand to snapshots and to each other.
 pub mod lives;
-pub mod names;
 pub mod nesting;

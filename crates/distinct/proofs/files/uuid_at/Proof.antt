@@ -1,0 +1,13 @@
+use borrow.Author.Needs.{needs}
+use mathlib.Core.Path.{ap₂}
+use Rattle.layout.specs.Records.{uuidOf}
+use Rattle.distinct.proofs.files.uuid_at.Statement.{statement}
+use Rattle.distinct.proofs.files.uuid_at.Tie as tie
+
+returns : tie.Need-returns
+returns c = ap₂ uuidOf (c .before .field-at .ensures) (c .field-at2 .ensures)
+
+pub uuid-at-spec : {M : Type 1} → statement M
+uuid-at-spec =
+    tie.close
+    (tie.spec (λ c κs. search needs) (λ c. search needs) (λ c κs. search needs) returns)

@@ -1,0 +1,3 @@
+// 'Sound tables', what may not occur twice: file ids and UUIDs; names and orders of records that share a live number.
+pub mod files;
+pub mod names;
