@@ -337,6 +337,12 @@ cases =
     ∷ (14 ∷ 138 ∷ 1048576 ∷ 75 ∷ 1048579 ∷ [])
     -- a name again, after its schema ended
     ∷ (14 ∷ 63 ∷ 1 ∷ 64 ∷ 3 ∷ 337 ∷ 111 ∷ 338 ∷ 116 ∷ 339 ∷ 104 ∷ 340 ∷ 101 ∷ 341 ∷ 114 ∷ [])
+    -- UUIDs of one remainder
+    ∷ (14 ∷ 250 ∷ 65537 ∷ [])
+    -- names of one key
+    ∷ (14 ∷ 305 ∷ 97 ∷ 306 ∷ 98 ∷ 307 ∷ 0 ∷ 308 ∷ 0 ∷ 309 ∷ 0 ∷ 337 ∷ 98 ∷ 338 ∷ 67 ∷ 339 ∷ 0 ∷ [])
+    -- scheduled ids of one remainder
+    ∷ (14 ∷ 39 ∷ 65541 ∷ 252 ∷ 65540 ∷ [])
     -- a UUID in one half alike
     ∷ (14 ∷ 249 ∷ 9 ∷ 250 ∷ 1 ∷ [])
     -- the later of two delete files has the lower id
