@@ -30,7 +30,7 @@ field-at-requires-2 : tie.Need-field-at-requires-2 Inv-loop μ-loop
 field-at-requires-2 c κs = let s = c .before .before .before .before .pre in (record-fits _ (c .before .loop-test .taken) (s .0), s .1)
 
 returns : tie.Need-returns Inv-loop μ-loop
-returns c = sym (c .before .before .before .before .loop .inv .1 ∙ chained-fail _ _ _ _ (c .before .before .before .loop-test .taken) (cc (le-ltb _ _ (c .if1 .taken))))
+returns c = sym (c .before .before .before .before .loop .inv .1 ∙ chained-fail _ _ _ _ (c .before .before .before .loop-test .taken) (cc (le-ltb (c .before .before .field-at .result) (c .before .field-at2 .result) (omega (arith, c .if1 .taken)))))
 
 loop-again : tie.Need-loop-again Inv-loop μ-loop
 loop-again c = (omega arith, c .before .before .before .before .loop .inv .1 ∙ chained-pass _ _ _ _ (c .before .before .before .loop-test .taken) (cc (lt-ltb _ _ (c .if1 .left))))
