@@ -1,12 +1,13 @@
 -- Loops: what each comes to from the present turn on. The laws `-start`, `-pass`, `-fail`, `-next`, `-end` are cited at a function's needs.
 use Prim.Native.Nat.{ℕ, zero, suc, _+_, _*_, _-_, _≤_, _<_}
-use mathlib.Core.Path.{_≡_, refl, ap, ap₂, _∙_}
+use mathlib.Core.Path.{_≡_, refl, sym, ap, ap₂, _∙_}
 use mathlib.Core.List.{List, [], _∷_, _++_, map, flatMap, append-assoc, append-nil}
 use mathlib.Core.Bool.{Bool, true, false, not, and-false}
 use native.Mathlib.Omega.{arith}
 use native.Mathlib.Numerals.{add-one}
 use native.Mathlib.Nat.{mul-zero, mul-le-mul-left, mul-suc, add-zero, add-suc, zero-add, suc-add}
 use lib.ListN.{length, take, set, replicate, length-map}
+use lib.Seq.{take-all}
 use Rattle.lists.specs.Lists.{range, all, pairwise, chained, filter, place}
 use Rattle.lists.specs.declared.Found.the-variants.{At, Nothing}
 use Rattle.lists.specs.Runs.{from, overwrite, replace, Layout, at, table}
@@ -186,6 +187,9 @@ module _ (f : ℕ → ℕ) (n : ℕ) where
     where
       long : n ≡ 0 + length (map f (range 0 n))
       long = omega (arith, length-map (range 0 n) f, length-range 0 n)
+
+  pub filled-whole : (w : List ℕ) {v : List ℕ} → length v ≡ n → v ≡ overwrite w 0 (map f (range 0 n)) → v ≡ map f (range 0 n)
+  filled-whole w l e = sym (take-all n _ (omega (arith, l))) ∙ filled-taken w e
 
 -- a loop that counts the elements that pass p, and one that writes what g makes of each: what it comes to from the turn i on
 module _ {A : Type 0} (f : ℕ → A) (p : A → Bool) (n : ℕ) where

@@ -5,7 +5,7 @@ use mathlib.Core.Path.{_≡_, refl}
 use mathlib.Core.Bool.{Bool, true, false, not, _&&_, _||_}
 use mathlib.Core.List.{List, [], _∷_, _++_}
 use lib.Dec.{eqb}
-use lib.ListN.{take, drop, getD, replicate}
+use lib.ListN.{take, replicate}
 use Rattle.lists.specs.Lists.{range, all, agree}
 use Rattle.lists.specs.Runs.{overwrite}
 use Rattle.layout.specs.declared.outcome.Counts.{Counts}
@@ -15,42 +15,10 @@ use Rattle.ducklake.specs.Soundness.{fieldsInRange, snapshotsRise, livesSound, 
 use Rattle.ducklake.specs.Calls.{Call, Result, perform, performFresh}
 use Rattle.ducklake.proofs.Sessions.{passes}
 use Rattle.ducklake.proofs.Diary.{area, toEnd}
+use Rattle.soundness_cases.specs.Arrays.{runs, used}
 use Rattle.soundness_cases.specs.Tables.{tables, cases, session}
 
--- the runs and counts in one array, and back
-
-piece : ℕ → ℕ → List ℕ → List ℕ
-piece at n ws = take n (drop at ws)
-
-runs : List ℕ → Words
-runs ws = record {
-  snapshots = piece 0 56 ws;
-  schemas = piece 56 15 ws;
-  schemaNames = piece 273 128 ws;
-  tables = piece 71 20 ws;
-  tableNames = piece 401 160 ws;
-  columns = piece 91 35 ws;
-  columnNames = piece 561 160 ws;
-  dataFiles = piece 126 32 ws;
-  deleteFiles = piece 158 32 ws;
-  positions = piece 190 6 ws;
-  statistics = piece 196 52 ws;
-  scheduled = piece 248 16 ws;
-}
-
-used : List ℕ → Counts
-used ws = record {
-  snapshots = getD ws 264 0;
-  schemas = getD ws 265 0;
-  tables = getD ws 266 0;
-  columns = getD ws 267 0;
-  «data_files» = getD ws 268 0;
-  «delete_files» = getD ws 269 0;
-  positions = getD ws 270 0;
-  statistics = getD ws 271 0;
-  scheduled = getD ws 272 0;
-}
-
+-- the array of runs and counts
 array : Words → Counts → List ℕ
 array w c =
     w .snapshots ++ w .schemas ++ w .tables ++ w .columns ++ w .dataFiles ++ w .deleteFiles ++ w .positions ++ w .statistics ++ w .scheduled
@@ -90,7 +58,7 @@ breaks (rule ∷ changes) =
     agree (λ k b. same b (not (eqb k rule))) (1 ∷ []) (take 1 bs) && (eqb rule 1 || agree (λ k b. same b (not (eqb k rule))) (range 1 13) bs)
 
 cases-break : all breaks cases ≡ true
-unfolding passes tables cases breaks start rules runs used piece pieces changed same
+unfolding passes tables cases breaks start rules runs used pieces changed same
 cases-break = refl
 
 -- the arrays that the session comes to, call by call
@@ -108,5 +76,5 @@ zeros : List ℕ
 zeros = replicate 721 0
 
 session-is : agree (agree eqb) (steps zeros session) (left (performFresh 100 (runs zeros) (used zeros) area) toEnd) ≡ true
-unfolding passes session area toEnd steps left zeros array runs used piece
+unfolding passes session area toEnd steps left zeros array runs used
 session-is = refl

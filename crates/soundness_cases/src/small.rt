@@ -1,32 +1,36 @@
 // Tables whose runs and used counts lie in one array of 721 words, one after another, each name byte a word.
+ghost use mathlib.Core.Path.{_≡_};
+ghost use Prim.Native.Nat.{_+_, _≤_};
+ghost use lib.ListN.{length};
+ghost use Rattle.soundness_cases.specs.Arrays.{bytes, soundArray};
 use layout::outcome::Counts;
 use soundness::check::is_sound;
 
-fn put_byte(bytes: &mut [u8], k: usize, x: u64) {
-    if k < bytes.len() {
-        bytes[k] = (x % 256) as u8;
-    }
-}
-
-fn bytes_of(words: &[u64], out: &mut [u8]) {
+// The n words from the place `at` on, as bytes.
+fn bytes_from(words: &[u64], at: usize, n: usize, out: &mut [u8])
+    requires { ⌜ (at + n ≤ length (now words)) × (length (now out) ≡ n) ⌝ }
+    ensures { λ _. ⌜ now (out .exit) ≡ bytes at n (now (words .entry)) ⌝ }
+{
     let mut i: usize = 0;
-    while i < words.len() {
-        put_byte(out, i, words[i]);
+    while i < n {
+        out[i] = (words[at + i] % 256) as u8;
         i += 1;
     }
 }
 
-// Whether the tables are sound.
-pub fn is_sound_array(words: &[u64]) -> bool {
+// Whether the array is as long as it should be and its tables are sound.
+pub fn is_sound_array(words: &[u64]) -> bool
+    ensures { λ r. ⌜ r ≡ soundArray (now (words .entry)) ⌝ }
+{
     if words.len() != 721 {
         return false;
     }
     let mut schema_names = [0u8; 128];
-    bytes_of(&words[273..401], &mut schema_names);
+    bytes_from(words, 273, 128, &mut schema_names);
     let mut table_names = [0u8; 160];
-    bytes_of(&words[401..561], &mut table_names);
+    bytes_from(words, 401, 160, &mut table_names);
     let mut column_names = [0u8; 160];
-    bytes_of(&words[561..721], &mut column_names);
+    bytes_from(words, 561, 160, &mut column_names);
     let counts = Counts {
         snapshots: words[264] as usize,
         schemas: words[265] as usize,

@@ -1,34 +1,47 @@
 // What the check answers at the limits and one past them.
+ghost use mathlib.Core.Path.{_≡_};
+ghost use Prim.Native.Nat.{_+_, _≤_};
+ghost use Rattle.lists.specs.Lists.{bit};
+ghost use Rattle.layout.specs.Words.{positionLimit};
+ghost use Rattle.soundness_limits.specs.Limits.{full};
 use layout::outcome::Counts;
 use samples::fill_columns_of_one;
 use soundness::check::is_sound;
 
-fn limit(more: bool) -> usize {
+// As many as may be used, or one more.
+fn most(limit: usize, more: bool) -> usize
+    requires { ⌜ limit ≤ positionLimit ⌝ }
+    ensures { λ r. ⌜ r ≡ limit + bit more ⌝ }
+{
     if more {
-        return 4097;
+        return limit + 1;
     }
-    4096
-}
-
-fn position_limit(more: bool) -> usize {
-    if more {
-        return 65537;
-    }
-    65536
+    limit
 }
 
 // Every table full; the kth, from 1 on, with one record more than it may have.
-pub fn full(k: u64) -> Counts {
+pub fn full(k: u64) -> Counts
+    ensures { λ r. ⌜ r ≡ full k ⌝ }
+{
+    let a = most(4096, k == 1);
+    let b = most(4096, k == 2);
+    let c = most(4096, k == 3);
+    let d = most(4096, k == 4);
+    let e = most(4096, k == 5);
+    let f = most(4096, k == 6);
+    let g = most(65536, k == 7);
+    let h = most(4096, k == 8);
+    let i = most(4096, k == 9);
     Counts {
-        snapshots: limit(k == 1),
-        schemas: limit(k == 2),
-        tables: limit(k == 3),
-        columns: limit(k == 4),
-        data_files: limit(k == 5),
-        delete_files: limit(k == 6),
-        positions: position_limit(k == 7),
-        statistics: limit(k == 8),
-        scheduled: limit(k == 9),
+        snapshots: a,
+        schemas: b,
+        tables: c,
+        columns: d,
+        data_files: e,
+        delete_files: f,
+        positions: g,
+        statistics: h,
+        scheduled: i,
     }
 }
 

@@ -1,4 +1,8 @@
 // How long a check takes, against a plain pass over the same runs.
+ghost use mathlib.Core.Path.{_≡_};
+ghost use Rattle.layout.specs.Words.{lent};
+ghost use Rattle.ducklake.specs.Soundness.{sound};
+ghost use Rattle.soundness_limits.specs.Limits.{full};
 use crate::answers::full;
 use soundness::check::is_sound;
 use std::num::wrapping_add_u64;
@@ -78,7 +82,7 @@ fn ticks_since(start: u64) -> u64 {
     if end < start { 0 } else { end - start }
 }
 
-// One check and one pass over the same runs, each timed.
+// One check and one pass over the same runs, each timed. The ticks are what the clock says; the answer is the definition's.
 pub fn measure(
     snapshots: &[u64],
     schemas: &[u64],
@@ -92,7 +96,11 @@ pub fn measure(
     positions: &[u64],
     statistics: &[u64],
     scheduled: &[u64],
-) -> Times {
+) -> Times
+    ensures { λ r. ⌜ r .sound ≡ sound (lent (now (snapshots .entry)) (now (schemas .entry)) (now («schema_names» .entry)) (now (tables .entry)) (now («table_names» .entry)) (now (columns .entry)) (now («column_names» .entry))
+        (now («data_files» .entry)) (now («delete_files» .entry)) (now (positions .entry)) (now (statistics .entry)) (now (scheduled .entry))) (full 0) ⌝ }
+{
+    let counts = full(0);
     let start = ticks();
     let sound = is_sound(
         snapshots,
@@ -107,7 +115,7 @@ pub fn measure(
         positions,
         statistics,
         scheduled,
-        full(0),
+        counts,
     );
     let check_ticks = ticks_since(start);
     let start = ticks();
