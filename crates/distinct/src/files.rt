@@ -96,9 +96,11 @@ fn uuid_key(u: Uuid) -> u64
     40503 * (u.high % 65536) + u.low % 65536
 }
 
-// Whether a UUID differs from those of the records from `start` on, all of them marked. Few others share a mark with it, so it seldom meets one.
+// Whether a UUID, of that key, differs from those of the records from `start` on, all of them marked. Few others share a mark with it, so it seldom
+// meets one.
 fn uuid_differs(
     u: Uuid,
+    key: u64,
     marks: &[u8],
     w: &[u64],
     size: usize,
@@ -106,12 +108,11 @@ fn uuid_differs(
     start: usize,
     n: usize,
 ) -> bool
-    requires { ⌜ (length (now marks) ≡ markCount)
+    requires { ⌜ (length (now marks) ≡ markCount) × (key ≡ uuidKey u)
         × (size * n ≤ length (now w)) × (at + 1 < size) × (start ≤ n)
         × ((j : ℕ) → start ≤ j → j < n → marked (now marks) (uuidKey (uuidAt size at (now w) j)) ≡ true) ⌝ }
     ensures { λ r. ⌜ r ≡ all (λ v. not (sameUuid u v)) (from (uuidAt size at (now (w .entry))) start n) ⌝ }
 {
-    let key = uuid_key(u);
     let known = is_marked(marks, key);
     if !known {
         return true;
@@ -136,11 +137,11 @@ fn uuids_differ(w: &[u64], size: usize, at: usize, n: usize) -> bool
     let mut i = n;
     while 0 < i {
         let u = uuid_at(w, size, at, i - 1);
-        let ok = uuid_differs(u, &marks, w, size, at, i, n);
+        let key = uuid_key(u);
+        let ok = uuid_differs(u, key, &marks, w, size, at, i, n);
         if !ok {
             return false;
         }
-        let key = uuid_key(u);
         mark(&mut marks, key);
         i -= 1;
     }
@@ -171,7 +172,8 @@ fn uuids_apart(a: &[u64], n: usize, b: &[u64], size: usize, at: usize, m: usize)
     let mut i: usize = 0;
     while i < n {
         let u = uuid_at(a, 8, 6, i);
-        let ok = uuid_differs(u, &marks, b, size, at, 0, m);
+        let key = uuid_key(u);
+        let ok = uuid_differs(u, key, &marks, b, size, at, 0, m);
         if !ok {
             return false;
         }

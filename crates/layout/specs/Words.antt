@@ -26,6 +26,7 @@ pub record Words : Type 0 where
   pub statistics : List ℕ
   pub scheduled : List ℕ
 
+-- the runs that a function is lent, in the order of its parameters
 abbrev pub lent : List ℕ → List ℕ → List ℕ → List ℕ → List ℕ → List ℕ → List ℕ → List ℕ → List ℕ → List ℕ → List ℕ → List ℕ → Words
 lent snapshots schemas schemaNames tables tableNames columns columnNames dataFiles deleteFiles positions statistics scheduled = record {
   snapshots = snapshots;

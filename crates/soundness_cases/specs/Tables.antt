@@ -63,8 +63,8 @@ tables =
     ∷ (0 ∷ 657 ∷ 105 ∷ 116 ∷ 101 ∷ 109 ∷ [])
     ∷ []
 
--- cases: the rule that is broken, and each changed word after its place. The rules are those of 'Sound tables' in its order; the last number stands
--- for none
+-- cases: the rule that is broken, and each changed word after its place. The rules are the tests of `sound`, in its order; the last number
+-- stands for none
 unfoldable pub cases : List (List ℕ)
 cases =
     -- Used counts fit the lent lengths and the limits; the delete counts add up to the used positions:

@@ -17,10 +17,10 @@ use Rattle.distinct.proofs.files.uuid_differs.Statement.{statement}
 use Rattle.distinct.proofs.files.uuid_differs.Tie as tie
 
 abbrev Inv-loop : tie.InvT-loop
-Inv-loop u marks w size at start n key known i₀ i = (i ≤ n) × (all (λ v. not (sameUuid u v)) (from (uuidAt size at w) start n) ≡ all (λ v. not (sameUuid u v)) (from (uuidAt size at w) i n))
+Inv-loop u key marks w size at start n known i₀ i = (i ≤ n) × (all (λ v. not (sameUuid u v)) (from (uuidAt size at w) start n) ≡ all (λ v. not (sameUuid u v)) (from (uuidAt size at w) i n))
 
 abbrev μ-loop : tie.MeasureT-loop
-μ-loop u marks w size at start n key known i₀ i = n - i
+μ-loop u key marks w size at start n known i₀ i = n - i
 
 same-read : (u : Uuid) (size at : ℕ) (run : List ℕ) (i : ℕ) {v : Uuid} → v ≡ uuidAt size at run i → sameUuid u (uuidAt size at run i) ≡ (eqb (u .high) (v .high) && eqb (u .low) (v .low))
 unfolding sameUuid
@@ -29,13 +29,14 @@ same-read u size at run i e = rw e refl
 returns : tie.Need-returns Inv-loop μ-loop
 returns c =
     let s = c .before in
-    unmarked-differs _ _ _ _ _ _ _ (s .before .before .before .before .pre .4) (s .before .uuid-key .ensures) (s .is-marked .ensures) (c .if1 .taken)
+    let p = s .before .before .before .pre in
+    unmarked-differs _ _ _ _ _ _ _ (p .5) (p .1) (s .is-marked .ensures) (c .if1 .taken)
 
 loop-holds : tie.Need-loop-holds Inv-loop μ-loop
-loop-holds c = (c .before .before .before .before .before .pre .3, refl)
+loop-holds c = (c .before .before .before .before .pre .4, refl)
 
 uuid-at-requires : tie.Need-uuid-at-requires Inv-loop μ-loop
-uuid-at-requires c κs = let p = c .before .before .before .before .before .before .before .pre in (record-fits _ (c .loop-test .taken) (p .1), p .2)
+uuid-at-requires c κs = let p = c .before .before .before .before .before .before .pre in (record-fits _ (c .loop-test .taken) (p .2), p .3)
 
 returns-2 : tie.Need-returns-2 Inv-loop μ-loop
 returns-2 c =
@@ -53,4 +54,4 @@ returns-3 c = sym (c .before .loop .inv .1 ∙ all-end _ _ _ _ (c .loop-test .le
 pub uuid-differs-spec : {M : Type 1} → statement M
 uuid-differs-spec =
     tie.close
-    (tie.spec Inv-loop μ-loop (λ c κs. search needs) (λ c κs. search needs) returns loop-holds uuid-at-requires returns-2 (λ c. search needs) (λ c. search needs) loop-again returns-3)
+    (tie.spec Inv-loop μ-loop (λ c κs. search needs) returns loop-holds uuid-at-requires returns-2 (λ c. search needs) (λ c. search needs) loop-again returns-3)

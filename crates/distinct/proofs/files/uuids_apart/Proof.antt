@@ -26,22 +26,22 @@ mark-uuids-requires : tie.Need-mark-uuids-requires Inv-loop μ-loop
 mark-uuids-requires c κs = let p = c .before .before .before .pre in (refl, p .1, p .2)
 
 slice-aggregate-uuid-differs : tie.Need-slice-aggregate-uuid-differs Inv-loop μ-loop
-slice-aggregate-uuid-differs c = sym (c .before .before .before .before .before .mark-uuids .ensures .0)
+slice-aggregate-uuid-differs c = sym (c .before .before .before .before .before .before .mark-uuids .ensures .0)
 
 uuid-differs-requires : tie.Need-uuid-differs-requires Inv-loop μ-loop
 uuid-differs-requires c κs =
-    let p = c .before .before .before .before .before .before .before .before .before .pre in
-    let m = c .before .before .before .before .before .mark-uuids .ensures in
-    (m .0, p .1, p .2, omega arith, λ j h k. m .1 j k)
+    let p = c .before .before .before .before .before .before .before .before .before .before .pre in
+    let m = c .before .before .before .before .before .before .mark-uuids .ensures in
+    (m .0, c .before .uuid-key .ensures, p .1, p .2, omega arith, λ j h k. m .1 j k)
 
 returns : tie.Need-returns Inv-loop μ-loop
 returns c =
-    let s = c .before .before .before in
+    let s = c .before .before .before .before in
     sym (s .before .before .loop .inv .1 ∙ all-fail _ _ _ _ (s .before .loop-test .taken) (all-start _ _ _ ∙ (differs-read _ _ _ _ _ (s .uuid-at .ensures) (c .before .uuid-differs .ensures) ∙ not-true _ (c .if1 .taken))))
 
 loop-again : tie.Need-loop-again Inv-loop μ-loop
 loop-again c =
-    let s = c .before .before .before in
+    let s = c .before .before .before .before in
     (omega arith, s .before .before .loop .inv .1 ∙ all-pass _ _ _ _ (s .before .loop-test .taken) (all-start _ _ _ ∙ (differs-read _ _ _ _ _ (s .uuid-at .ensures) (c .before .uuid-differs .ensures) ∙ not-false _ (c .if1 .left))))
 
 returns-2 : tie.Need-returns-2 Inv-loop μ-loop
@@ -50,4 +50,4 @@ returns-2 c = sym (c .before .loop .inv .1 ∙ all-end _ _ _ _ (c .loop-test .le
 pub uuids-apart-spec : {M : Type 1} → statement M
 uuids-apart-spec =
     tie.close
-    (tie.spec Inv-loop μ-loop (λ c. search needs) mark-uuids-requires loop-holds (λ c κs. search needs) slice-aggregate-uuid-differs uuid-differs-requires returns (λ c. search needs) (λ c. search needs) loop-again returns-2)
+    (tie.spec Inv-loop μ-loop (λ c. search needs) mark-uuids-requires loop-holds (λ c κs. search needs) (λ c κs. search needs) slice-aggregate-uuid-differs uuid-differs-requires returns (λ c. search needs) (λ c. search needs) loop-again returns-2)

@@ -30,17 +30,17 @@ uuid-at-requires : tie.Need-uuid-at-requires Inv-loop μ-loop
 uuid-at-requires c κs = let p = c .before .before .before .pre in (record-fits _ (omega (arith, c .loop-test .taken, c .before .loop .inv .0)) (p .0), p .1)
 
 slice-aggregate-uuid-differs : tie.Need-slice-aggregate-uuid-differs Inv-loop μ-loop
-slice-aggregate-uuid-differs c = sym (c .before .before .before .loop .inv .1)
+slice-aggregate-uuid-differs c = sym (c .before .before .before .before .loop .inv .1)
 
 uuid-differs-requires : tie.Need-uuid-differs-requires Inv-loop μ-loop
 uuid-differs-requires c κs =
-    let l = c .before .before .before .loop .inv in
-    let p = c .before .before .before .before .before .pre in
-    (l .1, p .0, p .1, l .0, l .2)
+    let l = c .before .before .before .before .loop .inv in
+    let p = c .before .before .before .before .before .before .pre in
+    (l .1, c .before .uuid-key .ensures, p .0, p .1, l .0, l .2)
 
 returns : tie.Need-returns Inv-loop μ-loop
 returns c =
-    let s = c .before .before .before in
+    let s = c .before .before .before .before in
     let l = s .before .before .loop in
     let o : l .i ≡ (l .i - 1) + 1 = omega (arith, s .before .loop-test .taken) in
     sym (pairwise-breaks _ _ (l .i) _ _ o (l .inv .0) (rw (← o) (differs-read _ _ _ _ _ (s .uuid-at .ensures) (c .before .uuid-differs .ensures) ∙ not-true _ (c .if1 .taken))))
@@ -53,15 +53,15 @@ mark-requires c κs = c .before .before .before .before .before .before .before 
 
 loop-again : tie.Need-loop-again Inv-loop μ-loop
 loop-again c =
-    let k = c .before .before .before in
-    let d = k .before .before in
-    let s = d .before .before in
+    let d = c .before .before .before .before in
+    let k = d .before .before in
+    let s = k .before in
     let l = s .before .before .loop in
     let o : l .i ≡ (l .i - 1) + 1 = omega (arith, s .before .loop-test .taken) in (
       omega (arith, l .inv .0),
       rw (c .before .mark .ensures, length-set) (l .inv .1),
       uuid-marked _ _ _ _ _ _ _ (l .inv .1) o (l .inv .2) (s .uuid-at .ensures) (k .uuid-key .ensures) (c .before .mark .ensures),
-      pairwise-below _ _ (l .i) _ _ o (l .inv .0) (rw (← o) (differs-read _ _ _ _ _ (s .uuid-at .ensures) (d .uuid-differs .ensures) ∙ not-false _ (k .before .if1 .left))) (l .inv .3),
+      pairwise-below _ _ (l .i) _ _ o (l .inv .0) (rw (← o) (differs-read _ _ _ _ _ (s .uuid-at .ensures) (d .uuid-differs .ensures) ∙ not-false _ (c .before .before .before .if1 .left))) (l .inv .3),
     )
 
 returns-2 : tie.Need-returns-2 Inv-loop μ-loop
@@ -70,4 +70,4 @@ returns-2 c = sym (pairwise-done _ _ _ _ (omega (arith, c .loop-test .left)) (c 
 pub uuids-differ-spec : {M : Type 1} → statement M
 uuids-differ-spec =
     tie.close
-    (tie.spec Inv-loop μ-loop loop-holds (λ c. search needs) uuid-at-requires slice-aggregate-uuid-differs uuid-differs-requires returns (λ c κs. search needs) slice-aggregate-mark mark-requires (λ c. search needs) (λ c. search needs) loop-again returns-2)
+    (tie.spec Inv-loop μ-loop loop-holds (λ c. search needs) uuid-at-requires (λ c κs. search needs) slice-aggregate-uuid-differs uuid-differs-requires returns slice-aggregate-mark mark-requires (λ c. search needs) (λ c. search needs) loop-again returns-2)
