@@ -1,35 +1,8 @@
-mod Accepted
-mod Alike
-mod Answers
-mod Below
-mod Chains
-mod Changes
-mod Commit
-mod CommitApart
-mod CommitLives
-mod CommitNumbers
-mod CommitRanges
-mod CommitStatistics
-mod Creates
-mod Deletes
-pub mod Diary
-mod Entries
-mod Expire
-mod Facts
-mod Frames
-mod Gap
-mod Good
-mod Histories
-mod Inserts
-mod Journals
-mod Kept
-mod Listed
-mod Moves
-mod Needs
-mod Pages
-mod Parts
-mod Removals
-mod Retained
-pub mod Sessions
-mod Tables
-mod Whole
+-- What is shown of document 01's definitions. ../README.md gives the order to read in, and the invariant of demand 3.
+pub mod facts
+pub mod commits
+pub mod expiry
+pub mod readings
+pub mod journal
+pub mod claim
+pub mod cases

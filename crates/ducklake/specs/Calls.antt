@@ -5,7 +5,7 @@ use mathlib.Core.Bool.{Bool, true, not, cond, _&&_}
 use mathlib.Core.List.{List, [], _∷_}
 use lib.Dec.{leb, ltb, eqb}
 use lib.ListN.{length, getD}
-use Rattle.lists.specs.Lists.{all, any, has, highest}
+use Rattle.lists.specs.Lists.{all, any, nonEmpty, has, highest}
 use Rattle.lists.specs.Runs.{overwrite}
 use Rattle.layout.specs.declared.outcome.Counts.{Counts}
 use Rattle.layout.specs.declared.outcome.Outcome.{Outcome}
@@ -15,9 +15,9 @@ use Rattle.layout.specs.Names.{isNameArgument, padded}
 use Rattle.layout.specs.Words.{Words, load, store, countsOf, capacity, within}
 use Rattle.ducklake.specs.Liveness.{retained, latest, latestId, schemasAt, tablesAt, columnsAt, deletedAt, isLive, dataFileOfId}
 use Rattle.ducklake.specs.Soundness.{isRecordCount, fileUuids, sameUuid, sound}
-use Rattle.ducklake.specs.Refusals.{accepted, notSound, noRoom, shortAnswerArea, numberTooLarge, notRetained, notLive, noSnapshotByThen, timeFalls, badName, nameTaken, schemaNotEmpty, badColumns, badRecordCount, uuidTaken, badStatistics, badPositions, alreadyDeleted, badExpiryList, expiresLatest, need}
+use Rattle.ducklake.specs.Refusals.{accepted, notSound, noRoom, shortAnswerArea, numberTooLarge, notRetained, idOfSchema, idOfTable, idOfFile, noSuchId, noSnapshotByThen, timeFalls, badName, nameTaken, schemaNotEmpty, badColumns, badRecordCount, uuidTaken, badStatistics, badPositions, alreadyDeleted, badExpiryList, expiresLatest, need}
 use Rattle.ducklake.specs.Arguments.{clashes, columnsFit, statisticsArgumentFits, positionsFit, expiryListFits}
-use Rattle.ducklake.specs.Commits.{freshCatalog, Commit, createSchema, createTable, insert, delete, dropTable, dropSchema, changeOf, commit, numbersFit}
+use Rattle.ducklake.specs.Commits.{freshCatalog, Commit, createSchema, createTable, insert, delete, dropTable, dropSchema, newDataFileId, changeOf, commit, numbersFit}
 use Rattle.ducklake.specs.Readings.{Query, queryAnswer, judgeQuery, snapshotsByTime}
 use Rattle.ducklake.specs.Maintenance.{expire, handedOut, cleanup}
 
@@ -47,34 +47,34 @@ judgeCommit C time (createSchema name) rest =
     (need nameTaken (not (any (λ s. clashes (s .body .name) (padded name)) (schemasAt (C .schemas) (latestId C))))
     rest))
 judgeCommit C time (createTable schema name columns names) rest =
-    need notLive (isLive (C .schemas) (latestId C) schema)
+    need (noSuchId C idOfSchema schema) (isLive (C .schemas) (latestId C) schema)
     (need timeFalls (inTime C time)
     (need badName (isNameArgument name)
     (need nameTaken (not (any (λ t. clashes (t .body .name) (padded name)) (tablesAt (C .tables) (latestId C) schema)))
     (need badColumns (columnsFit (latest C .nextCatalogId) columns names)
     rest))))
 judgeCommit C time (insert table recordCount uuid statistics) rest =
-    need notLive (isLive (C .tables) (latestId C) table)
+    need (noSuchId C idOfTable table) (isLive (C .tables) (latestId C) table)
     (need timeFalls (inTime C time)
     (need badRecordCount (isRecordCount recordCount)
     (need uuidTaken (uuidFree C uuid)
-    (need badStatistics (statisticsArgumentFits (columnsAt (C .columns) (latestId C) table) recordCount (latest C .nextFileId) statistics)
+    (need badStatistics (statisticsArgumentFits (columnsAt (C .columns) (latestId C) table) recordCount (newDataFileId C 0) statistics)
     rest))))
 judgeCommit C time (delete dataFile uuid positions) rest =
-    need notLive (isLive (C .dataFiles) (latestId C) dataFile)
+    need (noSuchId C idOfFile dataFile) (isLive (C .dataFiles) (latestId C) dataFile)
     (need timeFalls (inTime C time)
     (need uuidTaken (uuidFree C uuid)
     (need badPositions (positionsFit (dataFileOfId (C .dataFiles) dataFile .body .recordCount) positions)
     (need alreadyDeleted (all (λ p. not (has p (deletedAt (C .deleteFiles) (latestId C) dataFile))) positions)
     rest))))
 judgeCommit C time (dropTable table) rest =
-    need notLive (isLive (C .tables) (latestId C) table)
+    need (noSuchId C idOfTable table) (isLive (C .tables) (latestId C) table)
     (need timeFalls (inTime C time)
     rest)
 judgeCommit C time (dropSchema schema) rest =
-    need notLive (isLive (C .schemas) (latestId C) schema)
+    need (noSuchId C idOfSchema schema) (isLive (C .schemas) (latestId C) schema)
     (need timeFalls (inTime C time)
-    (need schemaNotEmpty (not (any (λ t. true) (tablesAt (C .tables) (latestId C) schema)))
+    (need schemaNotEmpty (not (nonEmpty (tablesAt (C .tables) (latestId C) schema)))
     rest))
 
 -- then 4
@@ -146,6 +146,11 @@ abbrev pub stored : Catalog → List ℕ → Words → Counts → List ℕ → R
 stored C words w c area =
     record { number = accepted; place = placeZero; length = length words; counts = countsOf C; words = store w c C; area = overwrite area 0 words }
 
+-- an accepted reading: the answer stands at the area's front, and all else is as it was, "the catalogue record back as it came"
+abbrev pub answered : List ℕ → Words → Counts → List ℕ → Result
+answered words w c area =
+    record { number = accepted; place = placeZero; length = length words; counts = c; words = w; area = overwrite area 0 words }
+
 unfoldable pub perform : Call → Words → Counts → List ℕ → Result
 perform k w c area =
     let number : ℕ = refusal w c (length area) k in
@@ -178,7 +183,7 @@ pub data Reading : Type 0 where
 
 unfoldable pub judgeReading : Catalog → Reading → ℕ → ℕ
 judgeReading C (queryAt s q) rest = need notRetained (retained (C .snapshots) s) (judgeQuery C s q rest)
-judgeReading C (byTime t) rest = need noSnapshotByThen (any (λ n. true) (snapshotsByTime (C .snapshots) t)) rest
+judgeReading C (byTime t) rest = need noSnapshotByThen (nonEmpty (snapshotsByTime (C .snapshots) t)) rest
 
 unfoldable pub readingAnswer : Catalog → Reading → List ℕ
 readingAnswer C (queryAt s q) = queryAnswer C s q
@@ -191,14 +196,10 @@ readingRefusal w c areaLength r =
     (need shortAnswerArea (leb (length (readingAnswer (load w c) r)) areaLength)
     accepted))
 
--- "a reading hands the catalogue record back as it came"
 unfoldable pub performReading : Reading → Words → Counts → List ℕ → Result
 performReading r w c area =
     let number : ℕ = readingRefusal w c (length area) r in
-    let words : List ℕ = readingAnswer (load w c) r in
-    cond (eqb number accepted)
-    (record { number = accepted; place = placeZero; length = length words; counts = c; words = w; area = overwrite area 0 words })
-    (refused number placeZero w c area)
+    cond (eqb number accepted) (answered (readingAnswer (load w c) r) w c area) (refused number placeZero w c area)
 
 -- The promise of every public call, over what it should give and leave, its outcome, and the tables and the answer area as it leaves them
 pub record Promise (result : Result) (outcome : Outcome) (words′ : Words) (area′ : List ℕ) : Type 0 where

@@ -1,7 +1,7 @@
 -- Demand 3: one claim about any list of calls from a fresh catalogue.
-use Prim.Native.Nat.{ℕ, suc, _+_}
+use Prim.Native.Nat.{ℕ, suc, _+_, _≤_, _<_}
 use mathlib.Core.Path.{_≡_}
-use mathlib.Core.Bool.{Bool, true, not, cond, _&&_, _||_}
+use mathlib.Core.Bool.{Bool, true, false, not, cond, _&&_, _||_}
 use mathlib.Core.List.{List, [], _∷_, _++_, map}
 use lib.Dec.{leb, ltb, eqb}
 use lib.ListN.{length, take, replicate}
@@ -10,7 +10,7 @@ use Rattle.layout.specs.declared.outcome.Counts.{Counts}
 use Rattle.layout.specs.Catalog.{absent}
 use Rattle.layout.specs.Words.{Words, load}
 use Rattle.ducklake.specs.Liveness.{retained}
-use Rattle.ducklake.specs.Refusals.{accepted, shortAnswerArea, notLive, need}
+use Rattle.ducklake.specs.Refusals.{accepted, shortAnswerArea, idOfTable, noSuchId, need}
 use Rattle.ducklake.specs.Readings.{Query, files, rows, queryAnswer}
 use Rattle.ducklake.specs.Calls.{Call, commitAt, expireSnapshots, cleanUp, Result, perform, performFresh, queryAt, performReading}
 use Rattle.ducklake.specs.Journal.{TableRows, Journal, emptyJournal, journaled}
@@ -51,7 +51,7 @@ answerOf r = record { number = r .number; words = take (r .length) (r .area) }
 unfoldable pub readingOf : Words → Counts → ℕ → Query → Answer
 readingOf w c s q = answerOf (performReading (queryAt s q) w c (replicate (length (queryAnswer (load w c) s q)) 0))
 
--- "in the file list of some table at a retained snapshot"
+-- "in the file list of some table at a retained snapshot": of the tables that the journal knows; no other has a file list (`Holds`)
 unfoldable pub isListed : State → ℕ → Bool
 isListed S k =
     any (λ s. isRetained S s && any (λ table. eqb (readingOf (S .words) (S .counts) s (files table) .number) accepted
@@ -118,7 +118,7 @@ acceptedStep S k r =
       fallen = filter (λ x. not (has (x .file) (handedBy k r))) (S .fallen) ++ fallenBetween S S′ (timeOf k);
     }
 
--- a refused call leaves what it leaves, and tells nothing
+-- a refused call leaves what it leaves, and tells nothing; a reading likewise
 abbrev pub refusedStep : State → Result → State
 refusedStep S r = record {
   words = r .words;
@@ -152,10 +152,13 @@ freshState time w c area = record {
 
 -- S is a state on the way, S′ the state after further calls
 pub record Holds (S S′ : State) : Type 0 where
-  -- any area with room gives the reading
-  pub anyArea : (s : ℕ) (q : Query) (area : List ℕ)
+  -- "readings given room for their answers": on an area with room for the answer no reading is refused with 3, and each gives the same; on a shorter one it
+  -- is refused with 3. A reading that is refused for another reason has no answer, and any area has room for it.
+  pub withRoom : (s : ℕ) (q : Query) (area : List ℕ) → length (readingOf (S′ .words) (S′ .counts) s q .words) ≤ length area
       → (performReading (queryAt s q) (S′ .words) (S′ .counts) area .number ≡ shortAnswerArea → ⊥)
-      → answerOf (performReading (queryAt s q) (S′ .words) (S′ .counts) area) ≡ readingOf (S′ .words) (S′ .counts) s q
+      × (answerOf (performReading (queryAt s q) (S′ .words) (S′ .counts) area) ≡ readingOf (S′ .words) (S′ .counts) s q)
+  pub withoutRoom : (s : ℕ) (q : Query) (area : List ℕ) → length area < length (readingOf (S′ .words) (S′ .counts) s q .words)
+      → performReading (queryAt s q) (S′ .words) (S′ .counts) area .number ≡ shortAnswerArea
   -- "Every reading at a retained snapshot (..) is accepted exactly when it was straight after the call that made the snapshot, and if accepted
   -- answers the same": straight after that call, and at every state from there on at which the snapshot is retained
   pub readingsStay : (s : ℕ) (q : Query) → isRetained S s ≡ true → isRetained S′ s ≡ true
@@ -167,7 +170,14 @@ pub record Holds (S S′ : State) : Type 0 where
   pub rowsAsJournaled : (s table : ℕ) → isRetained S′ s ≡ true
       → readingOf (S′ .words) (S′ .counts) s (rows table)
       ≡ (let t : TableRows = S′ .journal .page s table in
-      record { number = need notLive (t .present) accepted; words = cond (t .present) (t .rows) [] })
+      record { number = need (noSuchId (load (S′ .words) (S′ .counts)) idOfTable table) (t .present) accepted; words = cond (t .present) (t .rows) [] })
+  -- the file list of a table on the page is accepted, and that of any other, of whatever id, is refused with 6
+  pub fileListsAsJournaled : (s table : ℕ) → isRetained S′ s ≡ true
+      → readingOf (S′ .words) (S′ .counts) s (files table) .number
+      ≡ need (noSuchId (load (S′ .words) (S′ .counts)) idOfTable table) (S′ .journal .page s table .present) accepted
+  -- so "the file list of some table" is that of a table that the journal knows
+  pub listedAnywhere : (s table k : ℕ) → isRetained S′ s ≡ true → readingOf (S′ .words) (S′ .counts) s (files table) .number ≡ accepted
+      → has k (readingOf (S′ .words) (S′ .counts) s (files table) .words) ≡ true → isListed S′ k ≡ true
   -- "Every file ever registered is exactly one of these: in the file list of some table at a retained snapshot, scheduled, or handed out by an accepted
   -- cleanup. None is handed out twice, and none that a retained snapshot lists, then or later." No other number below ABSENT is any of these.
   pub filesPlaced : (k : ℕ) → ltb k absent ≡ true
@@ -183,3 +193,33 @@ abbrev pub Claim : Type 0
 Claim =
     (time : ℕ) (w : Words) (c : Counts) (area : List ℕ) → performFresh time w c area .number ≡ accepted
     → (xs ys : List Step) → Holds (run (freshState time w c area) xs) (run (run (freshState time w c area) xs) ys)
+
+-- Demand 3's own words: "straight after the call that made the snapshot". A call makes one snapshot at most, so that state is the first on the way at which
+-- snapshot s is made.
+abbrev pub whenMade : State → List Step → ℕ → State
+whenMade S [] s = S
+whenMade S (x ∷ xs) s = cond (leb s (S .journal .latest)) S (whenMade (step S x) xs s)
+
+-- S₁ is the state straight after the call that made s, S a later one at which s is retained: "Every reading at a retained snapshot (..) is accepted exactly
+-- when it was straight after the call that made the snapshot, and if accepted answers the same."
+pub record SinceMade (S₁ S : State) (s : ℕ) : Type 0 where
+  pub made : S₁ .journal .latest ≡ s
+  pub retainedThen : isRetained S₁ s ≡ true
+  pub acceptedWhen : (q : Query) → readingOf (S .words) (S .counts) s q .number ≡ readingOf (S₁ .words) (S₁ .counts) s q .number
+  pub sameAnswer : (q : Query) → readingOf (S .words) (S .counts) s q .words ≡ readingOf (S₁ .words) (S₁ .counts) s q .words
+
+abbrev pub SinceMadeClaim : Type 0
+SinceMadeClaim =
+    (time : ℕ) (w : Words) (c : Counts) (area : List ℕ) → performFresh time w c area .number ≡ accepted
+    → (xs : List Step) (s : ℕ) → isRetained (run (freshState time w c area) xs) s ≡ true
+    → SinceMade (whenMade (freshState time w c area) xs s) (run (freshState time w c area) xs) s
+
+-- "None is handed out twice, and none that a retained snapshot lists, then or later.": S is a state on the way, S′ the state after further calls
+pub record HandedOut (S S′ : State) : Type 0 where
+  pub once : (k : ℕ) → ltb k absent ≡ true → count (λ i. eqb i k) (S′ .handed) ≤ 1
+  pub notListed : (k : ℕ) → ltb k absent ≡ true → has k (S .handed) ≡ true → isListed S′ k ≡ false
+
+abbrev pub HandedOutClaim : Type 0
+HandedOutClaim =
+    (time : ℕ) (w : Words) (c : Counts) (area : List ℕ) → performFresh time w c area .number ≡ accepted
+    → (xs ys : List Step) → HandedOut (run (freshState time w c area) xs) (run (run (freshState time w c area) xs) ys)

@@ -82,18 +82,24 @@ nextSnapshot C d = record {
   object = d .object;
 }
 
+-- "New ids come from the next ids": the first id of a commit's new delete files, and that of its new data files, after so many new delete files
+abbrev pub newDeleteFileId : Catalog → ℕ
+newDeleteFileId C = latest C .nextFileId
+
+abbrev pub newDataFileId : Catalog → ℕ → ℕ
+newDataFileId C deleteFiles = newDeleteFileId C + deleteFiles
+
 unfoldable pub commit : Catalog → Change → Catalog
 commit C d =
     let n : ℕ = suc (latestId C) in
     let catalogId : ℕ = latest C .nextCatalogId in
-    let fileId : ℕ = latest C .nextFileId in
     record {
       snapshots = C .snapshots ++ (nextSnapshot C d ∷ []);
       schemas = map (close n (d .ends .schema)) (C .schemas) ++ born n catalogId (d .added .schemas);
       tables = map (λ t. close n (d .ends .table) (grow (d .rows) t)) (C .tables) ++ born n (catalogId + length (d .added .schemas)) (d .added .tables);
       columns = map (close n (d .ends .column)) (C .columns) ++ born n 1 (d .added .columns);
-      dataFiles = map (close n (d .ends .dataFile)) (C .dataFiles) ++ born n (fileId + length (d .added .deleteFiles)) (d .added .dataFiles);
-      deleteFiles = map (close n (d .ends .deleteFile)) (C .deleteFiles) ++ born n fileId (d .added .deleteFiles);
+      dataFiles = map (close n (d .ends .dataFile)) (C .dataFiles) ++ born n (newDataFileId C (length (d .added .deleteFiles))) (d .added .dataFiles);
+      deleteFiles = map (close n (d .ends .deleteFile)) (C .deleteFiles) ++ born n (newDeleteFileId C) (d .added .deleteFiles);
       statistics = C .statistics ++ d .added .statistics;
       scheduled = C .scheduled;
     }
@@ -164,7 +170,7 @@ changeOf C time (insert table recordCount uuid statistics) = record {
     columns = [];
     deleteFiles = [];
     dataFiles = record { table = table; recordCount = recordCount; rowIdStart = tableOfId (C .tables) table .body .nextRowId; uuid = uuid } ∷ [];
-    statistics = newStatistics (latest C .nextFileId) statistics;
+    statistics = newStatistics (newDataFileId C 0) statistics;
   };
 }
 -- "Delete: names a live data file and the newly deleted positions. The old delete file, if any, ends; the new one holds both sets."

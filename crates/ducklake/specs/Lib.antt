@@ -5,7 +5,9 @@ pub mod Commits
 pub mod Journal
 pub mod Kinds
 pub mod Liveness
+pub mod Lookup
 pub mod Maintenance
+pub mod Observed
 pub mod Paths
 pub mod Readings
 pub mod Refusals

@@ -32,7 +32,7 @@ latest C = latestOf (C .snapshots)
 abbrev pub latestId : Catalog → ℕ
 latestId C = latest C .id
 
--- what is live at s, in the tables' order, which is that of ids
+-- what is live at s, in the tables' order: by id, data files in file order (Soundness, `inFileOrder`)
 
 unfoldable pub schemasAt : List (Versioned Schema) → ℕ → List (Versioned Schema)
 schemasAt vs s = filter (live s) vs

@@ -16,11 +16,18 @@ scheduledFile uuid time v = record { file = v .id; uuid = uuid (v .body); start 
 abbrev pub removed : {A : Type 0} → List Snapshot → List (Versioned A) → List (Versioned A)
 removed ns vs = filter (λ v. not (liveAtSome ns v)) vs
 
+-- the snapshots that an expiry of these ids leaves
+abbrev pub leaves : List ℕ → Snapshot → Bool
+leaves ids n = not (has (n .id) ids)
+
+abbrev pub remaining : List Snapshot → List ℕ → List Snapshot
+remaining ns ids = filter (leaves ids) ns
+
 -- "Expiry takes snapshot ids and a time. The snapshots go, and every record live at no retained snapshot, with statistics and positions of such
 -- files; gaps close, order stays (..). Files removed are scheduled by ascending id, schedule_start the given time."
 unfoldable pub expire : Catalog → List ℕ → ℕ → Catalog
 expire C ids time =
-    let ns : List Snapshot = filter (λ n. not (has (n .id) ids)) (C .snapshots) in
+    let ns : List Snapshot = remaining (C .snapshots) ids in
     record {
       snapshots = ns;
       schemas = filter (liveAtSome ns) (C .schemas);
@@ -37,9 +44,16 @@ expire C ids time =
 abbrev pub due : ℕ → Scheduled → Bool
 due t x = ltb (x .start) t
 
--- "Cleanup takes t and hands out id, UUID high and UUID low, three words, of each scheduled record with schedule_start < t, in table order"
+-- "id, UUID high and UUID low, three words"
+abbrev pub handedSize : ℕ
+handedSize = 3
+
+abbrev pub handedWords : Scheduled → List ℕ
+handedWords x = (x .file) ∷ (x .uuid .high) ∷ (x .uuid .low) ∷ []
+
+-- "Cleanup takes t and hands out" these "of each scheduled record with schedule_start < t, in table order"
 unfoldable pub handedOut : Catalog → ℕ → List ℕ
-handedOut C t = flatMap (λ x. (x .file) ∷ (x .uuid .high) ∷ (x .uuid .low) ∷ []) (filter (due t) (C .scheduled))
+handedOut C t = flatMap handedWords (filter (due t) (C .scheduled))
 
 -- "and removes it"
 unfoldable pub cleanup : Catalog → ℕ → Catalog

@@ -1,24 +1,17 @@
--- Document 01, 'Readings': the list that each gives, and the file lookup.
-use Prim.Native.Nat.{ℕ, _+_, _*_}
-use mathlib.Core.Bool.{Bool, true, cond, not, _&&_, _||_}
+-- Document 01, 'Readings': the list that each gives.
+use Prim.Native.Nat.{ℕ, _+_}
+use mathlib.Core.Bool.{Bool, not, _&&_, _||_}
 use mathlib.Core.List.{List, [], _∷_, map, flatMap}
 use lib.Dec.{leb, eqb}
 use lib.IntN.{ℤ}
-use lib.ListN.{take, drop}
+use lib.ListN.{take}
 use lib.Signed.{leZ}
-use Rattle.lists.specs.declared.Found.{Found}
-use Rattle.lists.specs.declared.Found.the-variants.{At, Nothing}
-use Rattle.lists.specs.Lists.{range, any, filter, place, has, sortBy}
-use Rattle.lists.specs.Runs.{Layout}
-use Rattle.layout.specs.declared.outcome.Counts.{Counts}
-use Rattle.layout.specs.Records.{dataFileLayout, deleteFileLayout}
+use Rattle.lists.specs.Lists.{range, any, nonEmpty, filter, has, sortBy}
 use Rattle.layout.specs.Catalog.{absent, Versioned, Snapshot, Table, DataFile, DeleteFile, Statistics, Catalog}
 use Rattle.layout.specs.Names.{isNameArgument, padded, sameName}
 use Rattle.layout.specs.Types.{signed}
-use Rattle.layout.specs.Words.{Words, load}
 use Rattle.ducklake.specs.Liveness.{schemasAt, tablesAt, columnsAt, dataFilesAt, deleteFilesAt, deletedAt, isLive, columnLive}
-use Rattle.ducklake.specs.Soundness.{sound}
-use Rattle.ducklake.specs.Refusals.{notSound, notLive, need}
+use Rattle.ducklake.specs.Refusals.{notLive, idOfSchema, idOfTable, idOfColumn, noSuchId, need}
 
 -- "At a retained snapshot: schemas, tables of a schema, columns of a table by column_order, a table by name; files of a table, by id, each with its
 -- delete file; the file list filtered by `column = scalar` (signed 64-bit)"; "Rows"
@@ -40,7 +33,7 @@ abbrev pub orAbsent : List ℕ → ℕ
 orAbsent [] = absent
 orAbsent (k ∷ ks) = k
 
--- "a file list has two words a file, the second the delete file's id or ABSENT"
+-- "a file list has two words a file", in the table's file order, "the second the delete file's id or ABSENT"
 unfoldable pub listed : List (Versioned DeleteFile) → ℕ → Versioned DataFile → List ℕ
 listed ds s f = f .id ∷ orAbsent (map (λ d. d .id) (deleteFilesAt ds s (f .id))) ∷ []
 
@@ -70,36 +63,14 @@ queryAnswer C s (rows table) = flatMap (fileRows (C .deleteFiles) s) (dataFilesA
 -- what a query names has to be live at s: "Several ids are judged schema, table, column"; "A badly formed name in a lookup gives 6."
 unfoldable pub judgeQuery : Catalog → ℕ → Query → ℕ → ℕ
 judgeQuery C s schemas rest = rest
-judgeQuery C s (tables schema) rest = need notLive (isLive (C .schemas) s schema) rest
-judgeQuery C s (columns table) rest = need notLive (isLive (C .tables) s table) rest
+judgeQuery C s (tables schema) rest = need (noSuchId C idOfSchema schema) (isLive (C .schemas) s schema) rest
+judgeQuery C s (columns table) rest = need (noSuchId C idOfTable table) (isLive (C .tables) s table) rest
 judgeQuery C s (tableNamed schema name) rest =
-    need notLive (isLive (C .schemas) s schema) (need notLive (isNameArgument name && any (λ t. true) (tablesNamed (C .tables) s schema name)) rest)
-judgeQuery C s (files table) rest = need notLive (isLive (C .tables) s table) rest
-judgeQuery C s (filteredFiles table column scalar) rest = need notLive (isLive (C .tables) s table) (need notLive (columnLive (C .columns) s table column) rest)
-judgeQuery C s (rows table) rest = need notLive (isLive (C .tables) s table) rest
+    need (noSuchId C idOfSchema schema) (isLive (C .schemas) s schema) (need notLive (isNameArgument name && nonEmpty (tablesNamed (C .tables) s schema name)) rest)
+judgeQuery C s (files table) rest = need (noSuchId C idOfTable table) (isLive (C .tables) s table) rest
+judgeQuery C s (filteredFiles table column scalar) rest = need (noSuchId C idOfTable table) (isLive (C .tables) s table) (need (noSuchId C (idOfColumn table) column) (columnLive (C .columns) s table column) rest)
+judgeQuery C s (rows table) rest = need (noSuchId C idOfTable table) (isLive (C .tables) s table) rest
 
 -- "By time t: the highest retained id whose time ≤ t."
 unfoldable pub snapshotsByTime : List Snapshot → ℕ → List ℕ
 snapshotsByTime ns t = map (λ n. n .id) (filter (λ n. leb (n .time) t) ns)
-
--- The file lookup: "A file id names one row, of the data files or of the delete files, and looking it up gives that record itself, as a part of its
--- table. The lookup takes no snapshot. An id in neither gives 6; every refusal gives an empty part."
-
-pub record Lookup : Type 0 where
-  pub number : ℕ
-  pub part : List ℕ
-
-abbrev pub refusedLookup : ℕ → Lookup
-refusedLookup number = record { number = number; part = [] }
-
--- the words of the record at a place, or else
-abbrev pub recordPart : {A : Type 0} → Layout A → List ℕ → Found → Lookup → Lookup
-recordPart L run (At i) other = record { number = 0; part = take (L .size) (drop (L .size * i) run) }
-recordPart L run Nothing other = other
-
-unfoldable pub lookup : Words → Counts → ℕ → Lookup
-lookup w c k =
-    cond (sound w c)
-    (recordPart dataFileLayout (w .dataFiles) (place (λ f. eqb (f .id) k) 0 (load w c .dataFiles))
-    (recordPart deleteFileLayout (w .deleteFiles) (place (λ d. eqb (d .id) k) 0 (load w c .deleteFiles)) (refusedLookup notLive)))
-    (refusedLookup notSound)

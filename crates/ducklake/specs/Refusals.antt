@@ -1,6 +1,7 @@
 -- Document 01, 'Who can cause which refusal': the numbers, and the first that is met.
 use Prim.Native.Nat.{ℕ}
 use mathlib.Core.Bool.{Bool, true, false}
+use Rattle.layout.specs.Catalog.{Catalog}
 
 -- "An accepted call gives number 0"
 abbrev pub accepted : ℕ
@@ -33,6 +34,17 @@ notRetained = 5
 -- "6 no schema, table, column or file of that id or name live at that snapshot (the latest, for a commit)."
 abbrev pub notLive : ℕ
 notLive = 6
+
+-- what an id is one of: schemas, tables, the columns of a table, files
+pub data IdSort : Type 0 where
+  idOfSchema : IdSort
+  idOfTable : IdSort
+  idOfColumn : (table : ℕ) → IdSort
+  idOfFile : IdSort
+
+-- the refusal of an id that isn't one of its sort: 6, whichever id it is
+abbrev pub noSuchId : Catalog → IdSort → ℕ → ℕ
+noSuchId C sort id = notLive
 
 -- "7 no retained snapshot at or before t."
 abbrev pub noSnapshotByThen : ℕ

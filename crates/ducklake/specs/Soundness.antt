@@ -1,16 +1,15 @@
 -- Document 01, 'Sound tables': a test for each of its lines, and the limits of 'The lent tables' above it.
 use Prim.Native.Nat.{ℕ, _+_}
-use mathlib.Core.Bool.{Bool, true, not, _&&_, _||_}
+use mathlib.Core.Bool.{Bool, not, _&&_, _||_}
 use mathlib.Core.List.{List, _++_, map}
 use lib.Dec.{leb, ltb, eqb}
 use lib.ListN.{length}
-use lib.Signed.{leZ}
-use Rattle.lists.specs.Lists.{all, any, pairwise, chained, agree, filter, has, before}
+use Rattle.lists.specs.Lists.{all, any, nonEmpty, pairwise, chained, agree, filter, has, before}
 use Rattle.layout.specs.declared.outcome.Counts.{Counts}
 use Rattle.layout.specs.declared.record.Uuid.{Uuid}
-use Rattle.layout.specs.Catalog.{absent, numberLimit, Versioned, Snapshot, Schema, Table, Column, DataFile, DeleteFile, Statistics, Scheduled, Catalog}
+use Rattle.layout.specs.Catalog.{absent, numberLimit, recordCountLimit, columnLimit, Versioned, Snapshot, Schema, Table, Column, DataFile, DeleteFile, Statistics, Scheduled, Catalog}
 use Rattle.layout.specs.Names.{isName, sameName}
-use Rattle.layout.specs.Types.{signed, isType, inType}
+use Rattle.layout.specs.Types.{signed, isType, inType, boundAtMost}
 use Rattle.layout.specs.Words.{Words, load, fits}
 use Rattle.ducklake.specs.Kinds.{isKind}
 use Rattle.ducklake.specs.Liveness.{live, liveAtSome, latestOf, latest, columnsAt}
@@ -25,7 +24,7 @@ isFlag n = leb n 1
 
 -- "record_count is 1 to 1,048,576."
 unfoldable pub isRecordCount : ℕ → Bool
-isRecordCount n = leb 1 n && leb n 1048576
+isRecordCount n = leb 1 n && leb n recordCountLimit
 
 -- "every field is in its range; padding is zero". Begins, ends, change kinds and objects, positions, null counts and bounds are judged by lines
 -- of their own, below.
@@ -69,10 +68,14 @@ follows a b =
     ltb (a .id) (b .id) && leb (a .time) (b .time) && leb (a .schemaVersion) (b .schemaVersion)
     && leb (a .nextCatalogId) (b .nextCatalogId) && leb (a .nextFileId) (b .nextFileId)
 
--- "at least one snapshot; (..); change kinds are those below"; "the object is the schema's or table's id", so it is below the next one
+-- what a snapshot's change may be, where the next catalog id is this: "change kinds are those below"; "the object is the schema's or table's id", so it
+-- is below the next one
+abbrev pub changeSound : ℕ → Snapshot → Bool
+changeSound nextCatalogId n = isKind (n .kind) && ltb (n .object) nextCatalogId
+
+-- "at least one snapshot; snapshot ids ascend strictly; times, schema versions and next ids never fall; change kinds are those below"
 unfoldable pub snapshotsRise : List Snapshot → Bool
-snapshotsRise ns =
-    any (λ n. true) ns && chained follows ns && all (λ n. isKind (n .kind) && ltb (n .object) (latestOf ns .nextCatalogId)) ns
+snapshotsRise ns = nonEmpty ns && chained follows ns && all (changeSound (latestOf ns .nextCatalogId)) ns
 
 -- "each begin and each end that isn't ABSENT is at most the latest snapshot id; begin < end; every record is live at some retained snapshot"
 unfoldable pub lifeSound : {A : Type 0} → List Snapshot → Versioned A → Bool
@@ -87,6 +90,10 @@ livesSound C =
 abbrev pub byId : {A : Type 0} → Versioned A → Versioned A → Bool
 byId v w = ltb (v .id) (w .id)
 
+-- the order of a table's files, and of a file list: by id
+abbrev pub inFileOrder : Versioned DataFile → Versioned DataFile → Bool
+inFileOrder = byId
+
 unfoldable pub byTableAndId : Versioned Column → Versioned Column → Bool
 byTableAndId v w = before (v .body .table, v .id) (w .body .table, w .id)
 
@@ -96,7 +103,7 @@ byFileAndColumn x y = before (x .dataFile, x .column) (y .dataFile, y .column)
 -- "ids ascend strictly in schema, table, data file and delete file, columns by (table id, column id), statistics by (data file id, column id)"
 unfoldable pub idsAscend : Catalog → Bool
 idsAscend C =
-    chained byId (C .schemas) && chained byId (C .tables) && chained byId (C .dataFiles) && chained byId (C .deleteFiles)
+    chained byId (C .schemas) && chained byId (C .tables) && chained inFileOrder (C .dataFiles) && chained byId (C .deleteFiles)
     && chained byTableAndId (C .columns) && chained byFileAndColumn (C .statistics)
 
 -- the files of data files, delete files and scheduled: their ids, and their UUIDs
@@ -185,7 +192,7 @@ deleteFilesApart d e = not (eqb (d .body .dataFile) (e .body .dataFile)) || succ
 -- "positions ascend strictly below record_count; delete_count is 1 or more"
 unfoldable pub positionsSound : List (Versioned DataFile) → Versioned DeleteFile → Bool
 positionsSound fs d =
-    any (λ p. true) (d .body .positions) && chained ltb (d .body .positions)
+    nonEmpty (d .body .positions) && chained ltb (d .body .positions)
     && any (λ f. eqb (f .id) (d .body .dataFile) && all (λ p. ltb p (f .body .recordCount)) (d .body .positions)) fs
 
 unfoldable pub deletesSound : Catalog → Bool
@@ -217,7 +224,7 @@ statisticsFit rows c x =
     eqb (x .column) (c .id) && leb (x .nullCount) rows && (eqb (c .body .nullsAllowed) 1 || eqb (x .nullCount) 0)
     && (ltb (x .nullCount) rows || (eqb (x .hasMin) 0 && eqb (x .hasMax) 0))
     && boundFits (c .body .typeCode) (x .hasMin) (x .min) && boundFits (c .body .typeCode) (x .hasMax) (x .max)
-    && (eqb (x .hasMin) 0 || eqb (x .hasMax) 0 || leZ (signed (x .min)) (signed (x .max)))
+    && (eqb (x .hasMin) 0 || eqb (x .hasMax) 0 || boundAtMost (c .body .typeCode) (x .min) (x .max))
 
 unfoldable pub fileStatistics : List Statistics → ℕ → List Statistics
 fileStatistics xs k = filter (λ x. eqb (x .dataFile) k) xs
@@ -239,7 +246,7 @@ statisticsSound C = all (fileStatisticsSound (C .columns) (C .statistics)) (C .d
 
 -- "A table has 1 to 16 live columns at each retained snapshot where it lives."
 unfoldable pub columnCountSound : List (Versioned Column) → ℕ → Versioned Table → Bool
-columnCountSound cs s t = not (live s t) || (leb 1 (length (columnsAt cs s (t .id))) && leb (length (columnsAt cs s (t .id))) 16)
+columnCountSound cs s t = not (live s t) || (leb 1 (length (columnsAt cs s (t .id))) && leb (length (columnsAt cs s (t .id))) columnLimit)
 
 unfoldable pub columnCountsSound : Catalog → Bool
 columnCountsSound C = all (λ n. all (columnCountSound (C .columns) (n .id)) (C .tables)) (C .snapshots)

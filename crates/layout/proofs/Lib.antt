@@ -1,3 +1,4 @@
+mod Cases
 pub mod Names
 pub mod Padding
 pub mod Records

@@ -8,6 +8,7 @@ use lib.ListN.{length}
 use borrow.Author.Tests.{eqb-true}
 use Rattle.lists.proofs.Tests.{Reflects, both, reflects-as, reflects-and, reflects-leb}
 use Rattle.layout.specs.declared.outcome.Counts.{Counts}
+use Rattle.layout.specs.Fields.{snapshotSize, schemaSize, tableSize, columnSize, dataFileSize, deleteFileSize, statisticsSize, scheduledSize}
 use Rattle.layout.specs.Names.{nameSize}
 use Rattle.layout.specs.Words.{Words, tableLimit, positionLimit, positionsBefore, capacity, within, fits}
 
@@ -40,18 +41,18 @@ reflects-within a b =
 
 -- the runs hold what the counts take, and the counts are within the limits
 pub record Held (w : Words) (c : Counts) : Type 0 where
-  pub snapshots : 7 * c .snapshots ≤ length (w .snapshots)
-  pub schemas : 3 * c .schemas ≤ length (w .schemas)
+  pub snapshots : snapshotSize * c .snapshots ≤ length (w .snapshots)
+  pub schemas : schemaSize * c .schemas ≤ length (w .schemas)
   pub schemaNames : nameSize * c .schemas ≤ length (w .schemaNames)
-  pub tables : 5 * c .tables ≤ length (w .tables)
+  pub tables : tableSize * c .tables ≤ length (w .tables)
   pub tableNames : nameSize * c .tables ≤ length (w .tableNames)
-  pub columns : 7 * c .columns ≤ length (w .columns)
+  pub columns : columnSize * c .columns ≤ length (w .columns)
   pub columnNames : nameSize * c .columns ≤ length (w .columnNames)
-  pub dataFiles : 8 * c .«data_files» ≤ length (w .dataFiles)
-  pub deleteFiles : 8 * c .«delete_files» ≤ length (w .deleteFiles)
+  pub dataFiles : dataFileSize * c .«data_files» ≤ length (w .dataFiles)
+  pub deleteFiles : deleteFileSize * c .«delete_files» ≤ length (w .deleteFiles)
   pub positions : c .positions ≤ length (w .positions)
-  pub statistics : 7 * c .statistics ≤ length (w .statistics)
-  pub scheduled : 4 * c .scheduled ≤ length (w .scheduled)
+  pub statistics : statisticsSize * c .statistics ≤ length (w .statistics)
+  pub scheduled : scheduledSize * c .scheduled ≤ length (w .scheduled)
   pub tablesMost : c .tables ≤ tableLimit
   pub dataFilesMost : c .«data_files» ≤ tableLimit
   pub deleteFilesMost : c .«delete_files» ≤ tableLimit

@@ -14,12 +14,13 @@ use Rattle.lists.proofs.Selections.{flatMap-length, map-ext, map-map, map-same}
 use Rattle.lists.proofs.Runs.{replace-length}
 use Rattle.lists.proofs.Layouts.{Lawful, words-of-length, table-kept, table-replace}
 use Rattle.lists.proofs.Loops.{length-range}
-use Rattle.lists.proofs.Pieces.{joined, Pieces, Sized, sizes-sum, start-grows, pieces-length, words-of-sized, pieces-kept, pieces-replace}
+use Rattle.lists.specs.Pieces.{rowPieces}
+use Rattle.lists.proofs.Pieces.{joined, Sized, sizes-sum, start-grows, pieces-length, words-of-sized, pieces-kept, pieces-replace}
 use Rattle.layout.specs.declared.outcome.Counts.{Counts}
 use Rattle.layout.specs.Records.{deleteFileLayout}
 use Rattle.layout.specs.Catalog.{Catalog, snapshotOf, snapshotRecord, schemaOf, schemaRecord, tableOf, tableRecord, columnOf, columnRecord, dataFileOf, dataFileRecord, deleteFileOf, deleteFileRecord, statisticsOf, statisticsRecord, scheduledOf, scheduledRecord}
 use Rattle.layout.specs.Names.{nameSize, nameAt}
-use Rattle.layout.specs.Words.{Words, snapshotAt, schemaAt, tableAt, columnAt, dataFileAt, deleteCount, positionsBefore, positionsAt, deleteFileAt, statisticsAt, scheduledAt, load, storeTable, storeNames, store, countsOf, capacity, within, fits}
+use Rattle.layout.specs.Words.{Words, snapshotAt, schemaAt, tableAt, columnAt, dataFileAt, deleteCount, positionsBefore, positions-then, positionPieces, positionsAt, deleteFileAt, statisticsAt, scheduledAt, load, storeTable, storeNames, store, countsOf, capacity, within, fits}
 use Rattle.layout.proofs.Records.{snapshot-lawful, schema-lawful, table-lawful, column-lawful, dataFile-lawful, deleteFile-lawful, statistics-lawful, scheduled-lawful}
 use Rattle.layout.proofs.Room.{Held, held, fitting, SameLengths, capacity-same}
 
@@ -60,35 +61,21 @@ module _ {A X : Type 0} {L : Layout A} (F : Lawful L) (row : X → A) (old : Lis
 
 -- names in a run of which n places were in use
 
-abbrev namePieces : Pieces
-namePieces = record { size = λ _. nameSize; start = λ i. nameSize * i; first = refl; then = λ j. omega arith }
-
 module _ {X : Type 0} (name : X → List ℕ) (old : List ℕ) (n : ℕ) where
   names-kept : (f : ℕ → X) → ((j : ℕ) → name (f j) ≡ nameAt old j) → nameSize * n ≤ length old → storeNames name old n (map f (range 0 n)) ≡ old
-  names-kept f e h = pieces-kept namePieces name old n f e h
+  names-kept f e h = pieces-kept (rowPieces nameSize) name old n f e h
 
   module _ (xs : List X) (a : All (λ x. length (name x) ≡ nameSize) xs) where
-    sized : Sized namePieces name xs
+    sized : Sized (rowPieces nameSize) name xs
     sized = map-same (λ x. length (name x)) nameSize xs 0 (a .at)
 
     names-read : map (nameAt (storeNames name old n xs)) (range 0 (length xs)) ≡ map name xs
-    names-read = pieces-replace namePieces name old (nameSize * n) xs sized
+    names-read = pieces-replace (rowPieces nameSize) name old (nameSize * n) xs sized
 
     names-length : nameSize * n ≤ length old → nameSize * length xs ≤ length old → length (storeNames name old n xs) ≡ length old
-    names-length h g = replace-length old (nameSize * n) _ h (rw (words-of-sized namePieces name xs sized) g)
+    names-length h g = replace-length old (nameSize * n) _ h (rw (words-of-sized (rowPieces nameSize) name xs sized) g)
 
 -- positions
-
-pub positions-first : (run : List ℕ) → positionsBefore run 0 ≡ 0
-unfolding positionsBefore
-positions-first run = refl
-
-pub positions-then : (run : List ℕ) (i : ℕ) → positionsBefore run (suc i) ≡ positionsBefore run i + deleteCount run i
-unfolding positionsBefore
-positions-then run i = refl
-
-abbrev positionPieces : List ℕ → Pieces
-positionPieces run = record { size = deleteCount run; start = positionsBefore run; first = positions-first run; then = positions-then run }
 
 -- the positions of each delete file end where those of a later one begin, or before
 pub positions-grow : (run : List ℕ) (i n : ℕ) → i ≤ n → positionsBefore run i ≤ positionsBefore run n

@@ -22,6 +22,14 @@ absent = 2 ^ 64 - 1
 abbrev pub numberLimit : ℕ
 numberLimit = 2 ^ 62
 
+-- "record_count is 1 to 1,048,576."
+abbrev pub recordCountLimit : ℕ
+recordCountLimit = 1048576
+
+-- "A table has 1 to 16 live columns at each retained snapshot where it lives."
+abbrev pub columnLimit : ℕ
+columnLimit = 16
+
 pub record Versioned (A : Type 0) : Type 0 where
   pub id : ℕ
   pub begin : ℕ

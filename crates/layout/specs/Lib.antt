@@ -1,4 +1,6 @@
 pub mod Catalog
+pub mod Fields
+pub mod Lent
 pub mod Names
 pub mod Records
 pub mod Types

@@ -37,3 +37,7 @@ isType code = any (λ t. eqb (t .code) code) types
 -- a value in the range of the type of that code
 unfoldable pub inType : ℕ → ℤ → Bool
 inType code v = any (λ t. eqb (t .code) code && (leZ (t .low) v && leZ v (t .high))) types
+
+-- of two bounds of a column, as their words, the first is at most the second: bounds of every type are signed numbers
+abbrev pub boundAtMost : ℕ → ℕ → ℕ → Bool
+boundAtMost typeCode a b = leZ (signed a) (signed b)

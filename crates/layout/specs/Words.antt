@@ -1,11 +1,13 @@
 -- The lent runs, what they mean, and how a meaning is written into them.
 use Prim.Native.Nat.{ℕ, zero, suc, _+_, _*_, _/_, min}
+use mathlib.Core.Path.{_≡_, refl}
 use mathlib.Core.Bool.{Bool, _&&_}
 use mathlib.Core.List.{List, map, flatMap}
 use lib.Dec.{leb, eqb}
 use lib.ListN.{length, take, drop}
 use Rattle.lists.specs.Lists.{range, sum}
 use Rattle.lists.specs.Runs.{Layout, at, replace}
+use Rattle.lists.specs.Pieces.{Pieces}
 use Rattle.layout.specs.declared.outcome.Counts.{Counts}
 use Rattle.layout.specs.Records.{snapshotLayout, schemaLayout, tableLayout, columnLayout, dataFileLayout, deleteFileLayout, statisticsLayout, scheduledLayout}
 use Rattle.layout.specs.Catalog.{Versioned, Snapshot, Schema, Table, Column, DataFile, DeleteFile, Statistics, Scheduled, Catalog, snapshotOf, snapshotRecord, schemaOf, schemaRecord, tableOf, tableRecord, columnOf, columnRecord, dataFileOf, dataFileRecord, deleteFileOf, deleteFileRecord, statisticsOf, statisticsRecord, scheduledOf, scheduledRecord}
@@ -68,7 +70,18 @@ unfoldable pub positionsBefore : List ℕ → ℕ → ℕ
 positionsBefore run zero = 0
 positionsBefore run (suc i) = positionsBefore run i + deleteCount run i
 
+pub positions-first : (run : List ℕ) → positionsBefore run 0 ≡ 0
+unfolding positionsBefore
+positions-first run = refl
+
+pub positions-then : (run : List ℕ) (i : ℕ) → positionsBefore run (suc i) ≡ positionsBefore run i + deleteCount run i
+unfolding positionsBefore
+positions-then run i = refl
+
 -- "the delete files' positions follow each other in delete file order"
+abbrev pub positionPieces : List ℕ → Pieces
+positionPieces run = record { size = deleteCount run; start = positionsBefore run; first = positions-first run; then = positions-then run }
+
 abbrev pub positionsAt : List ℕ → List ℕ → ℕ → List ℕ
 positionsAt run positions i = take (deleteCount run i) (drop (positionsBefore run i) positions)
 

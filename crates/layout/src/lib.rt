@@ -1,5 +1,4 @@
-// The lent tables of document 01: number types, records in runs of words, names and value types, counts and outcomes.
-pub mod name;
+// The lent tables of document 01: number types, records, column types, counts and outcomes, with the limits; no function.
 pub mod number;
 pub mod outcome;
 pub mod record;

@@ -1,8 +1,3 @@
-ghost use mathlib.Core.Path.{_≡_};
-ghost use Prim.Native.Nat.{_+_, _*_, _≤_};
-ghost use lib.ListN.{length};
-ghost use Rattle.lists.specs.Runs.{at, overwrite};
-ghost use Rattle.layout.specs.Records.{snapshotLayout, snapshotWords, schemaLayout, schemaWords, tableLayout, tableWords, columnLayout, columnWords, dataFileLayout, dataFileWords, deleteFileLayout, deleteFileWords, statisticsLayout, statisticsWords, scheduledLayout, scheduledWords};
 use crate::number::CatalogId;
 use crate::number::FileId;
 use crate::number::RowId;
@@ -25,10 +20,51 @@ pub struct SnapshotRecord {
     pub object: CatalogId,
 }
 
+impl SnapshotRecord {
+    pub const SIZE: usize = 7;
+
+    pub const ID: usize = 0;
+
+    pub const TIME: usize = 1;
+
+    pub const SCHEMA_VERSION: usize = 2;
+
+    pub const NEXT_CATALOG_ID: usize = 3;
+
+    pub const NEXT_FILE_ID: usize = 4;
+
+    pub const KIND: usize = 5;
+
+    pub const OBJECT: usize = 6;
+}
+
+// The kinds of change that a snapshot records.
+pub const CREATED_SCHEMA: u64 = 1;
+
+pub const CREATED_TABLE: u64 = 2;
+
+pub const INSERTED_INTO_TABLE: u64 = 3;
+
+pub const DELETED_FROM_TABLE: u64 = 4;
+
+pub const DROPPED_SCHEMA: u64 = 6;
+
+pub const DROPPED_TABLE: u64 = 7;
+
 pub struct SchemaRecord {
     pub id: CatalogId,
     pub begin: SnapshotId,
     pub end: SnapshotId,
+}
+
+impl SchemaRecord {
+    pub const SIZE: usize = 3;
+
+    pub const ID: usize = 0;
+
+    pub const BEGIN: usize = 1;
+
+    pub const END: usize = 2;
 }
 
 pub struct TableRecord {
@@ -37,6 +73,20 @@ pub struct TableRecord {
     pub end: SnapshotId,
     pub schema: CatalogId,
     pub next_row_id: RowId,
+}
+
+impl TableRecord {
+    pub const SIZE: usize = 5;
+
+    pub const ID: usize = 0;
+
+    pub const BEGIN: usize = 1;
+
+    pub const END: usize = 2;
+
+    pub const SCHEMA: usize = 3;
+
+    pub const NEXT_ROW_ID: usize = 4;
 }
 
 pub struct ColumnRecord {
@@ -49,6 +99,24 @@ pub struct ColumnRecord {
     pub nulls_allowed: u64,
 }
 
+impl ColumnRecord {
+    pub const SIZE: usize = 7;
+
+    pub const ID: usize = 0;
+
+    pub const TABLE: usize = 1;
+
+    pub const BEGIN: usize = 2;
+
+    pub const END: usize = 3;
+
+    pub const ORDER: usize = 4;
+
+    pub const TYPE_CODE: usize = 5;
+
+    pub const NULLS_ALLOWED: usize = 6;
+}
+
 pub struct DataFileRecord {
     pub id: FileId,
     pub table: CatalogId,
@@ -57,6 +125,26 @@ pub struct DataFileRecord {
     pub record_count: u64,
     pub row_id_start: RowId,
     pub uuid: Uuid,
+}
+
+impl DataFileRecord {
+    pub const SIZE: usize = 8;
+
+    pub const ID: usize = 0;
+
+    pub const TABLE: usize = 1;
+
+    pub const BEGIN: usize = 2;
+
+    pub const END: usize = 3;
+
+    pub const RECORD_COUNT: usize = 4;
+
+    pub const ROW_ID_START: usize = 5;
+
+    pub const UUID_HIGH: usize = 6;
+
+    pub const UUID_LOW: usize = 7;
 }
 
 pub struct DeleteFileRecord {
@@ -69,6 +157,26 @@ pub struct DeleteFileRecord {
     pub uuid: Uuid,
 }
 
+impl DeleteFileRecord {
+    pub const SIZE: usize = 8;
+
+    pub const ID: usize = 0;
+
+    pub const TABLE: usize = 1;
+
+    pub const BEGIN: usize = 2;
+
+    pub const END: usize = 3;
+
+    pub const DATA_FILE: usize = 4;
+
+    pub const DELETE_COUNT: usize = 5;
+
+    pub const UUID_HIGH: usize = 6;
+
+    pub const UUID_LOW: usize = 7;
+}
+
 pub struct StatisticsRecord {
     pub data_file: FileId,
     pub column: u64,
@@ -79,241 +187,38 @@ pub struct StatisticsRecord {
     pub max: u64,
 }
 
+impl StatisticsRecord {
+    pub const SIZE: usize = 7;
+
+    pub const DATA_FILE: usize = 0;
+
+    pub const COLUMN: usize = 1;
+
+    pub const NULL_COUNT: usize = 2;
+
+    pub const HAS_MIN: usize = 3;
+
+    pub const HAS_MAX: usize = 4;
+
+    pub const MIN: usize = 5;
+
+    pub const MAX: usize = 6;
+}
+
 pub struct ScheduledRecord {
     pub file: FileId,
     pub uuid: Uuid,
     pub schedule_start: u64,
 }
 
-// Each record is read and written by one function, which the others call.
-pub fn snapshot_at(w: &[u64], i: usize) -> SnapshotRecord
-    requires { ⌜ 7 * i + 7 ≤ length (now w) ⌝ }
-    ensures { λ r. ⌜ r ≡ at snapshotLayout (now (w .entry)) i ⌝ }
-{
-    let k = 7 * i;
-    SnapshotRecord {
-        id: SnapshotId(w[k]),
-        time: w[k + 1],
-        schema_version: w[k + 2],
-        next_catalog_id: CatalogId(w[k + 3]),
-        next_file_id: FileId(w[k + 4]),
-        kind: w[k + 5],
-        object: CatalogId(w[k + 6]),
-    }
-}
+impl ScheduledRecord {
+    pub const SIZE: usize = 4;
 
-pub fn write_snapshot(w: &mut [u64], i: usize, r: SnapshotRecord)
-    requires { ⌜ 7 * i + 7 ≤ length (now w) ⌝ }
-    ensures { λ _. ⌜ now (w .exit) ≡ overwrite (now (w .entry)) (7 * i) (snapshotWords r) ⌝ }
-{
-    let k = 7 * i;
-    w[k] = r.id.0;
-    w[k + 1] = r.time;
-    w[k + 2] = r.schema_version;
-    w[k + 3] = r.next_catalog_id.0;
-    w[k + 4] = r.next_file_id.0;
-    w[k + 5] = r.kind;
-    w[k + 6] = r.object.0;
-}
+    pub const FILE: usize = 0;
 
-pub fn schema_at(w: &[u64], i: usize) -> SchemaRecord
-    requires { ⌜ 3 * i + 3 ≤ length (now w) ⌝ }
-    ensures { λ r. ⌜ r ≡ at schemaLayout (now (w .entry)) i ⌝ }
-{
-    let k = 3 * i;
-    SchemaRecord {
-        id: CatalogId(w[k]),
-        begin: SnapshotId(w[k + 1]),
-        end: SnapshotId(w[k + 2]),
-    }
-}
+    pub const UUID_HIGH: usize = 1;
 
-pub fn write_schema(w: &mut [u64], i: usize, r: SchemaRecord)
-    requires { ⌜ 3 * i + 3 ≤ length (now w) ⌝ }
-    ensures { λ _. ⌜ now (w .exit) ≡ overwrite (now (w .entry)) (3 * i) (schemaWords r) ⌝ }
-{
-    let k = 3 * i;
-    w[k] = r.id.0;
-    w[k + 1] = r.begin.0;
-    w[k + 2] = r.end.0;
-}
+    pub const UUID_LOW: usize = 2;
 
-pub fn table_at(w: &[u64], i: usize) -> TableRecord
-    requires { ⌜ 5 * i + 5 ≤ length (now w) ⌝ }
-    ensures { λ r. ⌜ r ≡ at tableLayout (now (w .entry)) i ⌝ }
-{
-    let k = 5 * i;
-    TableRecord {
-        id: CatalogId(w[k]),
-        begin: SnapshotId(w[k + 1]),
-        end: SnapshotId(w[k + 2]),
-        schema: CatalogId(w[k + 3]),
-        next_row_id: RowId(w[k + 4]),
-    }
-}
-
-pub fn write_table(w: &mut [u64], i: usize, r: TableRecord)
-    requires { ⌜ 5 * i + 5 ≤ length (now w) ⌝ }
-    ensures { λ _. ⌜ now (w .exit) ≡ overwrite (now (w .entry)) (5 * i) (tableWords r) ⌝ }
-{
-    let k = 5 * i;
-    w[k] = r.id.0;
-    w[k + 1] = r.begin.0;
-    w[k + 2] = r.end.0;
-    w[k + 3] = r.schema.0;
-    w[k + 4] = r.next_row_id.0;
-}
-
-pub fn column_at(w: &[u64], i: usize) -> ColumnRecord
-    requires { ⌜ 7 * i + 7 ≤ length (now w) ⌝ }
-    ensures { λ r. ⌜ r ≡ at columnLayout (now (w .entry)) i ⌝ }
-{
-    let k = 7 * i;
-    ColumnRecord {
-        id: w[k],
-        table: CatalogId(w[k + 1]),
-        begin: SnapshotId(w[k + 2]),
-        end: SnapshotId(w[k + 3]),
-        order: w[k + 4],
-        type_code: w[k + 5],
-        nulls_allowed: w[k + 6],
-    }
-}
-
-pub fn write_column(w: &mut [u64], i: usize, r: ColumnRecord)
-    requires { ⌜ 7 * i + 7 ≤ length (now w) ⌝ }
-    ensures { λ _. ⌜ now (w .exit) ≡ overwrite (now (w .entry)) (7 * i) (columnWords r) ⌝ }
-{
-    let k = 7 * i;
-    w[k] = r.id;
-    w[k + 1] = r.table.0;
-    w[k + 2] = r.begin.0;
-    w[k + 3] = r.end.0;
-    w[k + 4] = r.order;
-    w[k + 5] = r.type_code;
-    w[k + 6] = r.nulls_allowed;
-}
-
-pub fn data_file_at(w: &[u64], i: usize) -> DataFileRecord
-    requires { ⌜ 8 * i + 8 ≤ length (now w) ⌝ }
-    ensures { λ r. ⌜ r ≡ at dataFileLayout (now (w .entry)) i ⌝ }
-{
-    let k = 8 * i;
-    DataFileRecord {
-        id: FileId(w[k]),
-        table: CatalogId(w[k + 1]),
-        begin: SnapshotId(w[k + 2]),
-        end: SnapshotId(w[k + 3]),
-        record_count: w[k + 4],
-        row_id_start: RowId(w[k + 5]),
-        uuid: Uuid {
-            high: w[k + 6],
-            low: w[k + 7],
-        },
-    }
-}
-
-pub fn write_data_file(w: &mut [u64], i: usize, r: DataFileRecord)
-    requires { ⌜ 8 * i + 8 ≤ length (now w) ⌝ }
-    ensures { λ _. ⌜ now (w .exit) ≡ overwrite (now (w .entry)) (8 * i) (dataFileWords r) ⌝ }
-{
-    let k = 8 * i;
-    w[k] = r.id.0;
-    w[k + 1] = r.table.0;
-    w[k + 2] = r.begin.0;
-    w[k + 3] = r.end.0;
-    w[k + 4] = r.record_count;
-    w[k + 5] = r.row_id_start.0;
-    w[k + 6] = r.uuid.high;
-    w[k + 7] = r.uuid.low;
-}
-
-pub fn delete_file_at(w: &[u64], i: usize) -> DeleteFileRecord
-    requires { ⌜ 8 * i + 8 ≤ length (now w) ⌝ }
-    ensures { λ r. ⌜ r ≡ at deleteFileLayout (now (w .entry)) i ⌝ }
-{
-    let k = 8 * i;
-    DeleteFileRecord {
-        id: FileId(w[k]),
-        table: CatalogId(w[k + 1]),
-        begin: SnapshotId(w[k + 2]),
-        end: SnapshotId(w[k + 3]),
-        data_file: FileId(w[k + 4]),
-        delete_count: w[k + 5],
-        uuid: Uuid {
-            high: w[k + 6],
-            low: w[k + 7],
-        },
-    }
-}
-
-pub fn write_delete_file(w: &mut [u64], i: usize, r: DeleteFileRecord)
-    requires { ⌜ 8 * i + 8 ≤ length (now w) ⌝ }
-    ensures { λ _. ⌜ now (w .exit) ≡ overwrite (now (w .entry)) (8 * i) (deleteFileWords r) ⌝ }
-{
-    let k = 8 * i;
-    w[k] = r.id.0;
-    w[k + 1] = r.table.0;
-    w[k + 2] = r.begin.0;
-    w[k + 3] = r.end.0;
-    w[k + 4] = r.data_file.0;
-    w[k + 5] = r.delete_count;
-    w[k + 6] = r.uuid.high;
-    w[k + 7] = r.uuid.low;
-}
-
-pub fn statistics_at(w: &[u64], i: usize) -> StatisticsRecord
-    requires { ⌜ 7 * i + 7 ≤ length (now w) ⌝ }
-    ensures { λ r. ⌜ r ≡ at statisticsLayout (now (w .entry)) i ⌝ }
-{
-    let k = 7 * i;
-    StatisticsRecord {
-        data_file: FileId(w[k]),
-        column: w[k + 1],
-        null_count: w[k + 2],
-        has_min: w[k + 3],
-        has_max: w[k + 4],
-        min: w[k + 5],
-        max: w[k + 6],
-    }
-}
-
-pub fn write_statistics(w: &mut [u64], i: usize, r: StatisticsRecord)
-    requires { ⌜ 7 * i + 7 ≤ length (now w) ⌝ }
-    ensures { λ _. ⌜ now (w .exit) ≡ overwrite (now (w .entry)) (7 * i) (statisticsWords r) ⌝ }
-{
-    let k = 7 * i;
-    w[k] = r.data_file.0;
-    w[k + 1] = r.column;
-    w[k + 2] = r.null_count;
-    w[k + 3] = r.has_min;
-    w[k + 4] = r.has_max;
-    w[k + 5] = r.min;
-    w[k + 6] = r.max;
-}
-
-pub fn scheduled_at(w: &[u64], i: usize) -> ScheduledRecord
-    requires { ⌜ 4 * i + 4 ≤ length (now w) ⌝ }
-    ensures { λ r. ⌜ r ≡ at scheduledLayout (now (w .entry)) i ⌝ }
-{
-    let k = 4 * i;
-    ScheduledRecord {
-        file: FileId(w[k]),
-        uuid: Uuid {
-            high: w[k + 1],
-            low: w[k + 2],
-        },
-        schedule_start: w[k + 3],
-    }
-}
-
-pub fn write_scheduled(w: &mut [u64], i: usize, r: ScheduledRecord)
-    requires { ⌜ 4 * i + 4 ≤ length (now w) ⌝ }
-    ensures { λ _. ⌜ now (w .exit) ≡ overwrite (now (w .entry)) (4 * i) (scheduledWords r) ⌝ }
-{
-    let k = 4 * i;
-    w[k] = r.file.0;
-    w[k + 1] = r.uuid.high;
-    w[k + 2] = r.uuid.low;
-    w[k + 3] = r.schedule_start;
+    pub const SCHEDULE_START: usize = 3;
 }

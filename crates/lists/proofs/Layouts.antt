@@ -1,11 +1,11 @@
 -- Layouts that read what they write: tables of records in runs.
 use Prim.Native.Nat.{ℕ, zero, suc, _+_, _*_, _-_, _≤_, max}
-use mathlib.Core.Path.{_≡_, refl, ap, ap₂, _∙_}
+use mathlib.Core.Path.{_≡_, refl, sym, ap, ap₂, _∙_}
 use mathlib.Core.List.{List, [], _∷_, _++_, map, flatMap, append-assoc, append-nil}
 use native.Mathlib.Omega.{arith}
 use native.Mathlib.Nat.{add-comm, mul-zero, mul-suc, zero-add}
 use lib.ListN.{length, getD, take, drop, replicate, length-append, length-drop}
-use lib.Seq.{drop-cons, drop-at, drop-drop, take-add, take-all, getD-drop}
+use lib.Seq.{drop-cons, drop-at, drop-drop, take-add, take-all}
 use Rattle.lists.specs.Lists.{range}
 use Rattle.lists.specs.Runs.{from, overwrite, replace, Layout, at, table, field, fields}
 use Rattle.lists.proofs.Selections.{flatMap-append, map-ext}
@@ -14,8 +14,9 @@ use Rattle.lists.proofs.Runs.{overwrite-past, replace-more, replace-kep
 -- a record has `size` words, and reading and writing undo each other
 pub record Lawful {A : Type 0} (L : Layout A) : Type 0 where
   pub words-length : (r : A) → length (L .words r) ≡ L .size
-  pub words-read : (v : List ℕ) → L .size ≤ length v → L .words (L .read v) ≡ take (L .size) v
-  pub read-words : (r : A) (t : List ℕ) → L .read (L .words r ++ t) ≡ r
+  pub words-read : (v : List ℕ) → L .size ≤ length v → L .words (L .read v 0) ≡ take (L .size) v
+  pub read-words : (r : A) (t : List ℕ) → L .read (L .words r ++ t) 0 ≡ r
+  pub read-drop : (w : List ℕ) (k : ℕ) → L .read w k ≡ L .read (drop k w) 0
 
 -- the first n words one by one: `words-read` at a numeral n
 words-from : (n i : ℕ) (v : List ℕ) → i + n ≤ length v → map (λ j. getD v j 0) (range i n) ≡ take n (drop i v)
@@ -32,7 +33,7 @@ words-one-by-one n v h = words-from n 0 v (omega arith)
 pub fields-words : (v : List ℕ) (n : ℕ) → length v ≡ n → fields 1 0 v n ≡ v
 unfolding field
 fields-words v n h =
-    map-ext (field 1 0 v) (λ j. getD v j 0) (range 0 n) (λ j m. getD-drop (1 * j) v 0 0 ∙ ap (λ k. getD v k 0) (omega arith))
+    map-ext (field 1 0 v) (λ j. getD v j 0) (range 0 n) (λ j m. ap (λ k. getD v k 0) (omega arith))
     ∙ (words-one-by-one n v (omega arith) ∙ take-all n v (omega arith))
 
 module _ {A : Type 0} (L : Layout A) (F : Lawful L) where
@@ -42,7 +43,7 @@ module _ {A : Type 0} (L : Layout A) (F : Lawful L) where
   words-of-length (r ∷ rs) = rw (length-append, F .words-length, words-of-length rs) (omega arith)
 
   pub words-at : (w : List ℕ) (i : ℕ) → L .size * i + L .size ≤ length w → L .words (at L w i) ≡ take (L .size) (drop (L .size * i) w)
-  words-at w i h = F .words-read (drop (L .size * i) w) (rw length-drop (omega arith))
+  words-at w i h = ap (L .words) (F .read-drop w (L .size * i)) ∙ F .words-read (drop (L .size * i) w) (rw length-drop (omega arith))
 
   words-of-range : (w : List ℕ) (k i : ℕ) → L .size * (i + k) ≤ length w
       → flatMap (L .words) (map (at L w) (range i k)) ≡ take (L .size * k) (drop (L .size * i) w)
@@ -69,7 +70,7 @@ module _ {A : Type 0} (L : Layout A) (F : Lawful L) where
   read-of-words : (rs : List A) (w t : List ℕ) (i : ℕ) → drop (L .size * i) w ≡ flatMap (L .words) rs ++ t → map (at L w) (range i (length rs)) ≡ rs
   unfolding flatMap range
   read-of-words [] w t i e = refl
-  read-of-words (r ∷ rs) w t i e = ap₂ {C = List A} _∷_ (ap (L .read) here ∙ F .read-words r _) (read-of-words rs w t (suc i) next)
+  read-of-words (r ∷ rs) w t i e = ap₂ {C = List A} _∷_ (F .read-drop w (L .size * i) ∙ (ap (λ (v : List ℕ). L .read v 0) here ∙ F .read-words r _)) (read-of-words rs w t (suc i) next)
     where
       here : drop (L .size * i) w ≡ L .words r ++ (flatMap (L .words) rs ++ t)
       here = e ∙ append-assoc (L .words r) (flatMap (L .words) rs) t
@@ -84,7 +85,7 @@ module _ {A : Type 0} (L : Layout A) (F : Lawful L) where
   from-agree : (w v : List ℕ) (k i : ℕ) → drop (L .size * i) v ≡ drop (L .size * i) w → map (at L v) (range i k) ≡ map (at L w) (range i k)
   unfolding range
   from-agree w v zero i e = refl
-  from-agree w v (suc k) i e = ap₂ {C = List A} _∷_ (ap (L .read) e) (from-agree w v k (suc i) next)
+  from-agree w v (suc k) i e = ap₂ {C = List A} _∷_ (F .read-drop v (L .size * i) ∙ (ap (λ (u : List ℕ). L .read u 0) e ∙ sym (F .read-drop w (L .size * i)))) (from-agree w v k (suc i) next)
     where
       next : drop (L .size * suc i) v ≡ drop (L .size * suc i) w
       next = rw (mul-suc, ← drop-drop (L .size) (L .size * i) v, e, drop-drop) refl

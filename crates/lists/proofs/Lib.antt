@@ -1,12 +1,16 @@
 pub mod Blocks
+pub mod Compaction
 pub mod Counts
+pub mod Flags
+pub mod Hashes
+pub mod Insertion
 pub mod Keys
 pub mod Layouts
 pub mod Loops
-pub mod Marking
 pub mod Matches
 pub mod Members
 pub mod Memory
+pub mod Merges
 pub mod Orders
 pub mod Pieces
 pub mod Places
@@ -15,4 +19,6 @@ pub mod Search
 pub mod Selections
 pub mod Subsets
 pub mod Tests
+pub mod Updates
 pub mod Windows
+pub mod Writes

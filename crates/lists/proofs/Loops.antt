@@ -201,6 +201,11 @@ module _ {A : Type 0} (f : ℕ → A) (p : A → Bool) (n : ℕ) where
   unfolding counted range filter
   counted-start = rw (zero-add, from-all f n) refl
 
+  -- from a place on
+  pub counted-from : (i : ℕ) → length (filter p (from f i n)) ≡ counted 0 i
+  unfolding counted
+  counted-from i = sym (zero-add _)
+
   pub counted-pass : (k i : ℕ) → i < n → p (f i) ≡ true → counted k i ≡ counted (k + 1) (i + 1)
   unfolding counted
   counted-pass k i h e = rw (filter-pass f p i n h e) (omega arith)

@@ -10,6 +10,7 @@ use native.Mathlib.Omega.{arith}
 use Rattle.lists.specs.Lists.{range, all, any, pairwise, filter, find, has}
 use Rattle.lists.proofs.Tests.{Reflects, if, either, both, and, or-cases, or-left, or-right, clash}
 use lib.Dec.{eqb}
+use lib.ListN.{length, getD}
 use borrow.Author.Tests.{eqb-true, eq-eqb, not-true}
 
 -- a record, so that P is determined where it is left out
@@ -221,3 +222,8 @@ pub range-in : (a n p : ℕ) → a ≤ p → p < a + n → In p (range a n)
 unfolding range
 range-in a zero p h k = absurd (omega arith)
 range-in a (suc n) p h k = either (eq-or-lt-of-le h) (λ (e : a ≡ p). here (sym e)) (λ (l : a < p). next (range-in (suc a) n p l (omega arith)))
+
+pub in-getD : {A : Type 0} (d : A) (xs : List A) (i : ℕ) → i < length xs → In (getD xs i d) xs
+in-getD d [] i h = absurd (omega arith)
+in-getD d (x ∷ xs) zero h = here refl
+in-getD d (x ∷ xs) (suc i) h = next (in-getD d xs i (omega arith))

@@ -1,15 +1,15 @@
 -- Sorting by a key, and ascending lists.
 use Prim.Native.Nat.{ℕ, zero, suc, _<_}
-use mathlib.Core.Path.{_≡_, refl, ap, ap₂, _∙_}
+use mathlib.Core.Path.{_≡_, refl, sym, ap, ap₂, _∙_}
 use mathlib.Core.List.{List, [], _∷_, map}
 use mathlib.Core.Bool.{Bool, true, false, _&&_, _||_}
 use native.Mathlib.Omega.{arith}
-use lib.Dec.{leb}
+use lib.Dec.{leb, ltb}
 use lib.ListN.{length}
-use borrow.Author.Tests.{leb-true, leb-false}
-use Rattle.lists.specs.Lists.{all, any, pairwise, chained, insertBy, sortBy, range, agree}
-use Rattle.lists.proofs.Tests.{Reflects, if, either, both, and, clash}
-use Rattle.lists.proofs.Members.{In, here, next, All, each, Pairwise, none, more, all-nil, all-cons, all-one, pair-one, all-in, in-all, reflects-pairwise, in-cons, in-nil, in-range}
+use borrow.Author.Tests.{leb-true, leb-false, ltb-true, lt-ltb}
+use Rattle.lists.specs.Lists.{all, any, filter, pairwise, chained, insertBy, sortBy, range, agree}
+use Rattle.lists.proofs.Tests.{Reflects, if, either, both, and, clash, reflects-ltb}
+use Rattle.lists.proofs.Members.{In, here, next, All, each, Pairwise, none, more, all-nil, all-cons, all-one, pair-one, all-in, in-all, reflects-pairwise, pair-filter, in-cons, in-nil, in-range}
 
 -- a transitive relation that holds of neighbours holds of every pair
 pub chained-pairwise : {A : Type 0} (r : A → A → Bool) (xs : List A) → ((a b c : A) → r a b ≡ true → r b c ≡ true → r a c ≡ true)
@@ -167,3 +167,14 @@ pub pair-sort : (xs : List ℕ) → Pairwise (λ x y. x ≡ y → ⊥) xs → Pa
 unfolding sortBy
 pair-sort [] d = none
 pair-sort (x ∷ xs) (more a d) = pair-insert x (sortBy (λ p. p) xs) (pair-sort xs d) (all-sort (λ p. p) a)
+
+-- what stays of a list with ascending keys has ascending keys
+pub ascending-kept : {A : Type 0} (p : A → Bool) (key : A → ℕ) (xs : List A) → chained ltb (map key xs) ≡ true → chained ltb (map key (filter p xs)) ≡ true
+ascending-kept {A} p key xs h =
+    chained-map ltb key (filter p xs)
+    ∙ pairwise-chained (λ a b. ltb (key a) (key b)) (filter p xs) (apart (filter p xs) .from (pair-filter p (apart xs .to
+    (chained-pairwise (λ a b. ltb (key a) (key b)) xs (λ a b c d e. lt-ltb (key a) (key c) (omega (arith, ltb-true (key a) (key b) d, ltb-true (key b) (key c) e)))
+    (sym (chained-map ltb key xs) ∙ h)))))
+  where
+    apart : (ys : List A) → Reflects (pairwise (λ a b. ltb (key a) (key b)) ys) (Pairwise (λ a b. key a < key b) ys)
+    apart ys = reflects-pairwise (λ a b. reflects-ltb (key a) (key b)) ys

@@ -8,6 +8,7 @@ use lib.ListN.{length, take, drop, length-drop}
 use lib.Seq.{drop-drop, drop-at, take-at, take-add, length-take-le}
 use Rattle.lists.specs.Lists.{range, sum}
 use Rattle.lists.specs.Runs.{replace}
+use Rattle.lists.specs.Pieces.{Pieces, piece}
 use Rattle.lists.proofs.Members.{In, in-range}
 use Rattle.lists.proofs.Selections.{flatMap-map, flatMap-length}
 use Rattle.lists.proofs.Runs.{replace-kept}
@@ -19,16 +20,6 @@ joined join f g row side e [] [] p q = refl
 joined join f g row side e [] (x ∷ xs) p q = cc
 joined join f g row side e (j ∷ js) [] p q = cc
 joined join f g row side e (j ∷ js) (x ∷ xs) p q = cc (e x, joined join f g row side e js xs (cc) (cc))
-
--- pieces that follow each other from 0 on
-pub record Pieces : Type 0 where
-  pub size : ℕ → ℕ
-  pub start : ℕ → ℕ
-  pub first : start 0 ≡ 0
-  pub then : (j : ℕ) → start (suc j) ≡ start j + size j
-
-abbrev pub piece : Pieces → List ℕ → ℕ → List ℕ
-piece P w j = take (P .size j) (drop (P .start j) w)
 
 -- the words of xs have the sizes of the first pieces
 abbrev pub Sized : {A : Type 0} → Pieces → (A → List ℕ) → List A → Type 0

@@ -21,6 +21,10 @@ unfoldable pub any : {A : Type 0} → (A → Bool) → List A → Bool
 any p [] = false
 any p (x ∷ xs) = p x || any p xs
 
+-- some element is there
+abbrev pub nonEmpty : {A : Type 0} → List A → Bool
+nonEmpty xs = any (λ x. true) xs
+
 -- each element stands in r to every later one
 unfoldable pub pairwise : {A : Type 0} → (A → A → Bool) → List A → Bool
 pairwise r [] = true
@@ -93,3 +97,7 @@ insertBy key x (y ∷ ys) = cond (leb (key x) (key y)) (x ∷ (y ∷ ys)) (y ∷
 unfoldable pub sortBy : {A : Type 0} → (A → ℕ) → List A → List A
 sortBy key [] = []
 sortBy key (x ∷ xs) = insertBy key x (sortBy key xs)
+
+-- two lists by ascending key, f below n and g below m, of which those below i and j are merged: whether the next is of the first
+unfoldable pub firstNext : (ℕ → ℕ) → ℕ → ℕ → (ℕ → ℕ) → ℕ → ℕ → Bool
+firstNext f i n g j m = ltb i n && (leb m j || leb (f i) (g j))

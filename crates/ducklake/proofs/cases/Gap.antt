@@ -1,0 +1,64 @@
+-- Soundness alone is not kept: sound tables on which an accepted delete leaves unsound ones. The data file 0 is open and its delete file 1 has ended,
+-- so that the delete ends nothing and its new delete file lacks position 0. No catalogue grown from a fresh one gets there (`Chain`).
+use Prim.Native.Nat.{ℕ}
+use mathlib.Core.Path.{_≡_, refl}
+use mathlib.Core.List.{[], _∷_}
+use mathlib.Core.Bool.{true, false}
+use lib.ListN.{replicate}
+use Rattle.layout.specs.Records.{uuidOf}
+use Rattle.layout.specs.Catalog.{absent, Snapshot, Catalog}
+use Rattle.layout.specs.Names.{padded}
+use Rattle.layout.specs.Words.{Words, store, countsOf}
+use Rattle.ducklake.specs.Soundness.{sound}
+use Rattle.ducklake.specs.Commits.{delete}
+use Rattle.ducklake.specs.Calls.{commitAt, Result, perform, noCounts}
+use Rattle.ducklake.proofs.cases.Sessions.{passes}
+
+snapshot : ℕ → ℕ → ℕ → Snapshot
+snapshot id nextFileId kind = record { id = id; time = 0; schemaVersion = 1; nextCatalogId = 2; nextFileId = nextFileId; kind = kind; object = 1 }
+
+gap : Catalog
+gap = record {
+  snapshots = snapshot 1 1 3 ∷ snapshot 2 2 4 ∷ snapshot 3 2 1 ∷ [];
+  schemas = record { id = 0; begin = 1; end = absent; body = record { name = padded (109 ∷ []) } } ∷ [];
+  tables = record { id = 1; begin = 1; end = absent; body = record { schema = 0; nextRowId = 3; name = padded (116 ∷ []) } } ∷ [];
+  columns = record { id = 1; begin = 1; end = absent; body = record { table = 1; order = 0; typeCode = 4; nullsAllowed = 1; name = padded (99 ∷ []) } } ∷ [];
+  dataFiles = record { id = 0; begin = 1; end = absent; body = record { table = 1; recordCount = 3; rowIdStart = 0; uuid = uuidOf 0 1 } } ∷ [];
+  deleteFiles = record { id = 1; begin = 2; end = 3; body = record { table = 1; dataFile = 0; positions = 0 ∷ []; uuid = uuidOf 0 2 } } ∷ [];
+  statistics = record { dataFile = 0; column = 1; nullCount = 0; hasMin = 0; hasMax = 0; min = 0; max = 0 } ∷ [];
+  scheduled = [];
+}
+
+lent : Words
+lent = record {
+  snapshots = replicate 28 0;
+  schemas = replicate 3 0;
+  schemaNames = replicate 32 0;
+  tables = replicate 5 0;
+  tableNames = replicate 32 0;
+  columns = replicate 7 0;
+  columnNames = replicate 32 0;
+  dataFiles = replicate 8 0;
+  deleteFiles = replicate 16 0;
+  positions = replicate 4 0;
+  statistics = replicate 7 0;
+  scheduled = [];
+}
+
+tables : Words
+tables = store lent noCounts gap
+
+deleted : Result
+deleted = perform (commitAt 0 (delete 0 (uuidOf 0 3) (1 ∷ []))) tables (countsOf gap) []
+
+sound-before : sound tables (countsOf gap) ≡ true
+unfolding snapshot gap lent tables passes
+sound-before = refl
+
+delete-accepted : deleted .number ≡ 0
+unfolding snapshot gap lent tables deleted passes
+delete-accepted = refl
+
+unsound-after : sound (deleted .words) (deleted .counts) ≡ false
+unfolding snapshot gap lent tables deleted passes
+unsound-after = refl
