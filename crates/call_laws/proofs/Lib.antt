@@ -1,0 +1,11 @@
+pub mod Cleanup
+pub mod CommitCounts
+pub mod CommitWords
+pub mod Commits
+pub mod Expiry
+pub mod Fresh
+pub mod Ids
+pub mod Promises
+pub mod Ready
+pub mod Refusals
+pub mod Stores

@@ -1,0 +1,4 @@
+pub mod Additions
+pub mod Latest
+pub mod Rewritten
+pub mod Writes
