@@ -1,1 +1,4 @@
+pub mod Order
+pub mod Positions
+pub mod Times
 pub mod Versions

@@ -6,7 +6,7 @@ ghost use Rattle.ducklake.specs.Soundness.{overlap, holds, sameLife};
 ghost use Rattle.lookup.specs.Versions.{lifeAt, withLife};
 use layout::number::ABSENT;
 use layout::number::SnapshotId;
-use lists::fields::field_at;
+use runs::fields::field_at;
 
 // From begin up to, and without, end; ABSENT is greatest.
 pub struct Life {

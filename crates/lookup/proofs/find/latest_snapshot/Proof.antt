@@ -1,3 +1,4 @@
+-- `latest_snapshot` meets its contract: the last of n records is the one before the place n.
 use borrow.Author.Needs.{needs}
 use mathlib.Core.Path.{sym, ap, _∙_}
 use Rattle.layout.specs.Catalog.{snapshotOf}

@@ -1,3 +1,4 @@
+-- `is_live` meets its contract: the code is the definition, on the two ends of each life.
 use mathlib.Core.Path.{refl}
 use Rattle.ducklake.specs.Liveness.{live}
 use Rattle.lookup.proofs.life.is_live.Statement.{statement}

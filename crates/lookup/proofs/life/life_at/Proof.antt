@@ -1,3 +1,4 @@
+-- `life_at` meets its contract: begin and end are two words that follow each other.
 use borrow.Author.Needs.{needs}
 use mathlib.Core.Path.{ap₂}
 use Rattle.layout.specs.Records.{snapshotId}

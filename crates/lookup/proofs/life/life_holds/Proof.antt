@@ -1,3 +1,4 @@
+-- `life_holds` meets its contract: the code is the definition, on the two ends of each life.
 use mathlib.Core.Path.{refl}
 use Rattle.ducklake.specs.Soundness.{holds}
 use Rattle.lookup.proofs.life.life_holds.Statement.{statement}

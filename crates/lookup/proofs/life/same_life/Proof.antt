@@ -1,3 +1,4 @@
+-- `same_life` meets its contract: the code is the definition, on the two ends of each life.
 use mathlib.Core.Path.{refl}
 use Rattle.ducklake.specs.Soundness.{sameLife}
 use Rattle.lookup.proofs.life.same_life.Statement.{statement}

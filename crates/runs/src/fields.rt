@@ -1,0 +1,120 @@
+ghost use mathlib.Core.Path.{_≡_};
+ghost use mathlib.Core.Bool.{true, _&&_};
+ghost use Prim.Native.Nat.{_+_, _*_, _≤_, _<_};
+ghost use lib.Dec.{leb, ltb, eqb};
+ghost use lib.ListN.{length};
+ghost use Rattle.lists.specs.Lists.{all, chained, count, place};
+ghost use Rattle.lists.specs.Runs.{field, fields};
+use lists::Found;
+
+// The word `at` of each record of a run, records of `size` words.
+pub fn field_at(w: &[u64], size: usize, at: usize, i: usize) -> u64
+    requires { ⌜ (size * i + size ≤ length (now w)) × (at < size) ⌝ }
+    ensures { λ r. ⌜ r ≡ field size at (now (w .entry)) i ⌝ }
+{
+    w[size * i + at]
+}
+
+// Whether they ascend strictly.
+pub fn fields_ascend(w: &[u64], size: usize, at: usize, n: usize) -> bool
+    requires { ⌜ (size * n ≤ length (now w)) × (at < size) ⌝ }
+    ensures { λ r. ⌜ r ≡ chained ltb (fields size at (now (w .entry)) n) ⌝ }
+{
+    let mut i: usize = 0;
+    while i + 1 < n {
+        let a = field_at(w, size, at, i);
+        let b = field_at(w, size, at, i + 1);
+        if b <= a {
+            return false;
+        }
+        i += 1;
+    }
+    true
+}
+
+// Whether they are all below the limit.
+pub fn fields_below(w: &[u64], size: usize, at: usize, n: usize, limit: u64) -> bool
+    requires { ⌜ (size * n ≤ length (now w)) × (at < size) ⌝ }
+    ensures { λ r. ⌜ r ≡ all (λ x. ltb x limit) (fields size at (now (w .entry)) n) ⌝ }
+{
+    let mut i: usize = 0;
+    while i < n {
+        let a = field_at(w, size, at, i);
+        if limit <= a {
+            return false;
+        }
+        i += 1;
+    }
+    true
+}
+
+// Whether they are all from `low` to `high`.
+pub fn fields_between(w: &[u64], size: usize, at: usize, n: usize, low: u64, high: u64) -> bool
+    requires { ⌜ (size * n ≤ length (now w)) × (at < size) ⌝ }
+    ensures { λ r. ⌜ r ≡ all (λ x. leb low x && leb x high) (fields size at (now (w .entry)) n) ⌝ }
+{
+    let mut i: usize = 0;
+    while i < n {
+        let a = field_at(w, size, at, i);
+        let ok = (low <= a) & (a <= high);
+        if !ok {
+            return false;
+        }
+        i += 1;
+    }
+    true
+}
+
+// How many are below x, where they never fall: by halves.
+pub fn count_below(w: &[u64], size: usize, at: usize, n: usize, x: u64) -> usize
+    requires { ⌜ (size * n ≤ length (now w)) × (at < size) × (chained leb (fields size at (now w) n) ≡ true) ⌝ }
+    ensures { λ r. ⌜ r ≡ count (λ y. ltb y x) (fields size at (now (w .entry)) n) ⌝ }
+{
+    let mut lo: usize = 0;
+    let mut hi = n;
+    while lo < hi {
+        let m = lo + (hi - lo) / 2;
+        let y = field_at(w, size, at, m);
+        if y < x {
+            lo = m + 1;
+        } else {
+            hi = m;
+        }
+    }
+    lo
+}
+
+// How many are at most x.
+pub fn count_through(w: &[u64], size: usize, at: usize, n: usize, x: u64) -> usize
+    requires { ⌜ (size * n ≤ length (now w)) × (at < size) × (chained leb (fields size at (now w) n) ≡ true) ⌝ }
+    ensures { λ r. ⌜ r ≡ count (λ y. leb y x) (fields size at (now (w .entry)) n) ⌝ }
+{
+    let mut lo: usize = 0;
+    let mut hi = n;
+    while lo < hi {
+        let m = lo + (hi - lo) / 2;
+        let y = field_at(w, size, at, m);
+        if y <= x {
+            lo = m + 1;
+        } else {
+            hi = m;
+        }
+    }
+    lo
+}
+
+// The place of x, where they ascend strictly.
+pub fn find_field(w: &[u64], size: usize, at: usize, n: usize, x: u64) -> Found
+    requires { ⌜ (size * n ≤ length (now w)) × (at < size) × (chained ltb (fields size at (now w) n) ≡ true) ⌝ }
+    ensures { λ r. ⌜ r ≡ place (λ y. eqb y x) 0 (fields size at (now (w .entry)) n) ⌝ }
+{
+    let i = count_below(w, size, at, n, x);
+    if n <= i {
+        return Found::Nothing;
+    }
+    let y = field_at(w, size, at, i);
+    if y == x {
+        return Found::At(i);
+    }
+    Found::Nothing
+}
