@@ -1,5 +1,0 @@
-pub mod ColumnCounts
-pub mod DataFiles
-pub mod DeleteFiles
-pub mod FileStatistics
-pub mod RowRanges

@@ -1,4 +1,0 @@
-pub mod Apart
-pub mod FileLists
-pub mod NameMarks
-pub mod UuidMarks

@@ -1,2 +1,0 @@
-pub mod NameKeys
-pub mod Uuids

@@ -1,3 +1,0 @@
-// 'Sound tables', how lives stand to snapshots and to each other.
-pub mod lives;
-pub mod nesting;
