@@ -1,0 +1,49 @@
+-- What sound tables give the judges and the listings: records found by id, blocks of columns, runs that are long enough.
+use Prim.Native.Nat.{ℕ}
+use mathlib.Core.Path.{_≡_}
+use mathlib.Core.Bool.{true}
+use native.Mathlib.Omega.{arith}
+use Rattle.layout.specs.declared.outcome.Counts.{Counts}
+use Rattle.layout.specs.Words.{Words}
+use Rattle.ducklake.specs.Soundness.{sound}
+use Rattle.call_laws.proofs.Ready.{Ready, ready}
+use Rattle.lookup.specs.Order.{SnapshotsById, SnapshotsByTime, SchemasById, TablesById, ColumnsByTable, DataFilesById, DeleteFilesById}
+use Rattle.listings.specs.Lent.{SchemasLent, TablesLent, ColumnsLent, NamedLent}
+use Rattle.file_lookup.specs.Runs.{FilesById}
+
+module _ (w : Words) (c : Counts) (h : sound w c ≡ true) where
+  given : Ready w c
+  given = ready w c h
+
+  pub snapshots-by-id : SnapshotsById (w .snapshots) (c .snapshots)
+  snapshots-by-id = record { lent = given .held .snapshots; inside = omega arith; ascending = given .snapshotIds }
+
+  pub snapshots-by-time : SnapshotsByTime (w .snapshots) (c .snapshots)
+  snapshots-by-time = record { lent = given .held .snapshots; inside = omega arith; neverFalling = given .snapshotTimes }
+
+  pub schemas-by-id : SchemasById (w .schemas) (c .schemas)
+  schemas-by-id = record { lent = given .held .schemas; inside = omega arith; ascending = given .schemaIds }
+
+  pub tables-by-id : TablesById (w .tables) (c .tables)
+  tables-by-id = record { lent = given .held .tables; inside = omega arith; ascending = given .tableIds }
+
+  pub columns-by-table : ColumnsByTable (w .columns) (c .columns)
+  columns-by-table = record { lent = given .held .columns; inside = omega arith; neverFalling = given .columnTables }
+
+  pub files-by-id : FilesById (w .dataFiles) (c .«data_files») (w .deleteFiles) (c .«delete_files»)
+  files-by-id = record {
+    dataFiles = record { lent = given .held .dataFiles; inside = omega arith; ascending = given .dataFileIds };
+    deleteFiles = record { lent = given .held .deleteFiles; inside = omega arith; ascending = given .deleteFileIds };
+  }
+
+  pub schemas-lent : SchemasLent (w .snapshots) (w .schemas) c
+  schemas-lent = record { snapshots = snapshots-by-id; schemas = given .held .schemas }
+
+  pub tables-lent : TablesLent (w .snapshots) (w .schemas) (w .tables) c
+  tables-lent = record { snapshots = snapshots-by-id; schemas = schemas-by-id; tables = given .held .tables }
+
+  pub columns-lent : ColumnsLent (w .snapshots) (w .tables) (w .columns) c
+  columns-lent = record { snapshots = snapshots-by-id; tables = tables-by-id; columns = columns-by-table }
+
+  pub named-lent : NamedLent (w .snapshots) (w .schemas) (w .tables) (w .tableNames) c
+  named-lent = record { snapshots = snapshots-by-id; schemas = schemas-by-id; tables = given .held .tables; names = given .held .tableNames }

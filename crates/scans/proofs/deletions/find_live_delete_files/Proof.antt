@@ -1,0 +1,62 @@
+-- From the last delete file to the first: what has been found is the first one, for each data file, of those passed.
+use borrow.Author.Needs.{needs}
+use Prim.Native.Nat.{_-_, _≤_}
+use mathlib.Core.Path.{_≡_, refl, ap, _∙_}
+use native.Mathlib.Omega.{arith}
+use lib.ListN.{length}
+use Rattle.lists.proofs.Runs.{record-fits}
+use Rattle.layout.specs.Fields.{deleteFileSize}
+use Rattle.scans.proofs.LiveDeletes.{FoundFrom, found-start, found-live, found-ended, found-end}
+use Rattle.scans.proofs.deletions.find_live_delete_files.Statement.{statement}
+use Rattle.scans.proofs.deletions.find_live_delete_files.Tie as tie
+
+abbrev Inv-loop : tie.InvT-loop
+Inv-loop files n run m s places₀ j₀ places j = (j ≤ m) × (length places ≡ length places₀) × FoundFrom files n run m (s .0) places j
+
+abbrev μ-loop : tie.MeasureT-loop
+μ-loop files n run m s places₀ j₀ places j = j
+
+loop-holds : tie.Need-loop-holds Inv-loop μ-loop
+loop-holds c =
+    let t = c .before .before .before in
+    let a = t .args in
+    (omega arith, refl, found-start (a .data-files .now) (a .n) (a .delete-files .now) (a .m) (a .s .0) (a .places .now) (t .pre .zeros))
+
+loop-again : tie.Need-loop-again Inv-loop μ-loop
+loop-again c =
+    let s = c .before .before .before .before in
+    let h = s .before .before .before .before .before .loop in
+    let t = s .before .before .before .before .before .before .before .before .before in
+    let a = t .args in
+    let k = c .before .before .set-at-data-file .kept .1 .1 .1 .0 in (
+      omega arith,
+      k ∙ h .inv .1,
+      found-live (a .data-files .now) (a .n) (a .delete-files .now) (a .m) (a .s .0) (h .places) (h .j) (h .j - 1) (omega arith) (omega arith)
+          (s .before .before .life-at .ensures) (s .before .is-live .ensures) (h .inv .2) (t .pre .byId .ascending) (omega (arith, h .inv .1, t .pre .room)) (s .if1 .taken)
+          (ap (λ f. f .0) (s .before .before .before .delete-file-data-file .ensures)) (c .before .before .set-at-data-file .ensures),
+    )
+
+loop-again-2 : tie.Need-loop-again-2 Inv-loop μ-loop
+loop-again-2 c =
+    let h = c .before .before .before .before .before .loop in
+    let a = c .before .before .before .before .before .before .before .before .before .args in (
+      omega arith,
+      h .inv .1,
+      found-ended (a .data-files .now) (a .n) (a .delete-files .now) (a .m) (a .s .0) (h .places) (h .j) (h .j - 1) (omega arith) (omega arith)
+          (c .before .before .life-at .ensures) (c .before .is-live .ensures) (h .inv .2) (c .if1 .left),
+    )
+
+same-length : tie.Need-same-length Inv-loop μ-loop
+same-length c = c .before .loop .inv .1
+
+returns : tie.Need-returns Inv-loop μ-loop
+returns c =
+    let h = c .before .loop in
+    let a = c .before .before .before .before .before .args in
+    found-end (a .data-files .now) (a .n) (a .delete-files .now) (a .m) (a .s .0) (h .places) (h .j) (omega arith) (omega (arith, h .inv .1, c .before .before .before .before .before .pre .room)) (h .inv .2)
+
+pub find-live-delete-files-spec : {M : Type 1} → statement M
+find-live-delete-files-spec =
+    tie.close
+    (tie.spec Inv-loop μ-loop loop-holds (λ c. search needs) (λ c κs. search needs) (λ c κs. search needs) (λ c κs. search needs) (λ c κs. search needs)
+    (λ c. search needs) loop-again (λ c. search needs) loop-again-2 same-length returns)

@@ -1,0 +1,6 @@
+pub mod Answers
+pub mod Deletions
+pub mod Filters
+pub mod Judged
+pub mod Readable
+pub mod Rows
