@@ -1,0 +1,2 @@
+// The public calls that begin and maintain a catalogue.
+pub mod fresh;

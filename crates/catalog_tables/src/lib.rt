@@ -1,0 +1,2 @@
+// The public calls that create and drop tables, as commits.
+pub mod drop_table;

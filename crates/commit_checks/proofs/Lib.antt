@@ -1,0 +1,3 @@
+pub mod Judges
+pub mod Lives
+pub mod Relied

@@ -1,0 +1,76 @@
+-- `judge_drop_schema` meets its contract: it returns at the first test that fails, in the definition's order.
+use borrow.Author.Needs.{needs}
+use mathlib.Core.Path.{refl, ap, _∙_}
+use Rattle.lists.proofs.Tests.{passed, failed}
+use Rattle.ducklake.specs.Refusals.{notLive, timeFalls, schemaNotEmpty, numberTooLarge}
+use Rattle.ducklake.specs.Soundness.{snapshotInRange}
+use Rattle.call_laws.proofs.Refusals.{pass, fail}
+use Rattle.commit_checks.proofs.Judges.{drop-schema-judged}
+use Rattle.commit_checks.proofs.drop_schema.judge_drop_schema.Statement.{statement}
+use Rattle.commit_checks.proofs.drop_schema.judge_drop_schema.Tie as tie
+
+returns : tie.Need-returns
+returns c w p q r f =
+    drop-schema-judged w _ _ f p (c .before .before .latest-snapshot .ensures) _ q r (fail notLive _ (failed (c .before .schema-is-live .ensures (w .schemaNames)) (c .if1 .taken)))
+
+returns-2 : tie.Need-returns-2
+returns-2 c w p q r f =
+    let b = c .before .before in
+    drop-schema-judged w _ _ f p (b .before .before .latest-snapshot .ensures) _ q r
+    (pass notLive (passed (b .before .schema-is-live .ensures (w .schemaNames)) (b .if1 .left)) (fail timeFalls _ (failed (c .before .is-in-time .ensures) (c .if2 .taken))))
+
+returns-3 : tie.Need-returns-3
+returns-3 c w p q r f =
+    let d = c .before .before in
+    let b = d .before .before in
+    drop-schema-judged w _ _ f p (b .before .before .latest-snapshot .ensures) _ q r
+    (pass notLive (passed (b .before .schema-is-live .ensures (w .schemaNames)) (b .if1 .left))
+    (pass timeFalls (passed (d .before .is-in-time .ensures) (d .if2 .left))
+    (fail schemaNotEmpty _ (failed (c .before .schema-is-empty .ensures (w .tableNames)) (c .if3 .taken)))))
+
+next-snapshot-requires : tie.Need-next-snapshot-requires
+next-snapshot-requires c κs =
+    let l = c .before .before .before .before .before .before in
+    record {
+      inRange = ap snapshotInRange (l .latest-snapshot .ensures) ∙ l .before .before .before .before .pre .latest .inRange;
+      fewCatalogIds = search needs;
+      fewFileIds = search needs;
+    }
+
+returns-4 : tie.Need-returns-4
+returns-4 c w p q r f =
+    let g = c .before .before .before in
+    let d = g .before .before in
+    let b = d .before .before in
+    drop-schema-judged w _ _ f p (b .before .before .latest-snapshot .ensures) _ q r
+    (pass notLive (passed (b .before .schema-is-live .ensures (w .schemaNames)) (b .if1 .left))
+    (pass timeFalls (passed (d .before .is-in-time .ensures) (d .if2 .left))
+    (pass schemaNotEmpty (passed (g .before .schema-is-empty .ensures (w .tableNames)) (g .if3 .left))
+    (fail numberTooLarge _ (failed (c .before .snapshot-fits .ensures ∙ ap snapshotInRange (c .before .before .next-snapshot .ensures)) (c .if4 .taken))))))
+
+returns-5 : tie.Need-returns-5
+returns-5 c w p q r f =
+    let g = c .before .before .before in
+    let d = g .before .before in
+    let b = d .before .before in
+    drop-schema-judged w _ _ f p (b .before .before .latest-snapshot .ensures) _ q r
+    (pass notLive (passed (b .before .schema-is-live .ensures (w .schemaNames)) (b .if1 .left))
+    (pass timeFalls (passed (d .before .is-in-time .ensures) (d .if2 .left))
+    (pass schemaNotEmpty (passed (g .before .schema-is-empty .ensures (w .tableNames)) (g .if3 .left))
+    (pass numberTooLarge (passed (c .before .snapshot-fits .ensures ∙ ap snapshotInRange (c .before .before .next-snapshot .ensures)) (c .if4 .left)) refl))))
+
+pub judge-drop-schema-spec : {M : Type 1} → statement M
+judge-drop-schema-spec =
+    tie.close
+    (tie.spec
+    (λ c κs. search needs)
+    (λ c κs. search needs)
+    returns
+    (λ c κs. search needs)
+    returns-2
+    (λ c κs. search needs)
+    returns-3
+    next-snapshot-requires
+    (λ c κs. search needs)
+    returns-4
+    returns-5)

@@ -1,0 +1,48 @@
+-- What the functions of this crate rely on, named.
+use Prim.Native.Nat.{ℕ, _*_, _≤_}
+use mathlib.Core.Path.{_≡_}
+use mathlib.Core.Bool.{Bool, true}
+use mathlib.Core.List.{List}
+use lib.ListN.{length}
+use Rattle.lists.specs.Lists.{all}
+use Rattle.layout.specs.declared.outcome.Counts.{Counts}
+use Rattle.layout.specs.Fields.{tableSize}
+use Rattle.layout.specs.Catalog.{numberLimit, Snapshot, Catalog}
+use Rattle.layout.specs.Names.{nameSize}
+use Rattle.layout.specs.Words.{positionLimit}
+use Rattle.ducklake.specs.Soundness.{inLimit, snapshotInRange}
+use Rattle.call_laws.specs.Latest.{HasLatest}
+use Rattle.lookup.specs.Order.{SchemasById}
+
+-- a snapshot whose numbers are in their limits, and so few ids to take that none wraps
+pub record CanFollow (s : Snapshot) (catalogIds fileIds : ℕ) : Type 0 where
+  pub inRange : snapshotInRange s ≡ true
+  pub fewCatalogIds : catalogIds ≤ numberLimit
+  pub fewFileIds : fileIds ≤ numberLimit
+
+-- counts so small that two can be added
+pub record Few (c : Counts) : Type 0 where
+  pub snapshots : c .snapshots ≤ positionLimit
+  pub schemas : c .schemas ≤ positionLimit
+  pub tables : c .tables ≤ positionLimit
+  pub columns : c .columns ≤ positionLimit
+  pub dataFiles : c .«data_files» ≤ positionLimit
+  pub deleteFiles : c .«delete_files» ≤ positionLimit
+  pub positions : c .positions ≤ positionLimit
+  pub statistics : c .statistics ≤ positionLimit
+  pub scheduled : c .scheduled ≤ positionLimit
+
+-- n records of `size` words, and a name place for each
+pub record WithNames (size : ℕ) (run names : List ℕ) (n : ℕ) : Type 0 where
+  pub records : size * n ≤ length run
+  pub places : nameSize * n ≤ length names
+
+-- the row numbers of tables are in their limit: a commit without rows doesn't move them
+unfoldable pub nextRowIdsFit : Catalog → Bool
+nextRowIdsFit C = all (λ t. inLimit (t .body .nextRowId)) (C .tables)
+
+-- what 'drop schema' looks at
+pub record DropsSchema (ns ss ts : List ℕ) (c : Counts) : Type 0 where
+  pub latest : HasLatest ns (c .snapshots)
+  pub schemas : SchemasById ss (c .schemas)
+  pub tables : tableSize * c .tables ≤ length ts

@@ -1,0 +1,78 @@
+ghost use mathlib.Core.Path.{_≡_};
+ghost use Prim.Native.Nat.{ℕ};
+ghost use Rattle.layout.specs.Lent.{atEntry};
+ghost use Rattle.ducklake.specs.Commits.{createSchema};
+ghost use Rattle.ducklake.specs.Calls.{commitAt, refusal};
+use crate::room::has_room;
+use commit_checks::create_schema::judge_create_schema;
+use commit_checks::room::ONE_SCHEMA;
+use layout::outcome::ACCEPTED;
+use layout::outcome::Counts;
+use layout::outcome::NO_ROOM;
+use layout::outcome::NOT_SOUND;
+use soundness::check::is_sound;
+
+// The number of 'create schema'.
+pub fn refuse_create_schema(
+    snapshots: &[u64],
+    schemas: &[u64],
+    schema_names: &[u8],
+    tables: &[u64],
+    table_names: &[u8],
+    columns: &[u64],
+    column_names: &[u8],
+    data_files: &[u64],
+    delete_files: &[u64],
+    positions: &[u64],
+    statistics: &[u64],
+    scheduled: &[u64],
+    counts: Counts,
+    time: u64,
+    name: &[u8],
+) -> u64
+    ensures { λ r. ⌜ ((m : ℕ) → r ≡ refusal (atEntry snapshots schemas «schema_names» tables «table_names» columns «column_names»
+        «data_files» «delete_files» positions statistics scheduled) counts m (commitAt time (createSchema (now (name .entry))))) ⌝ }
+{
+    let sound = is_sound(
+        snapshots,
+        schemas,
+        schema_names,
+        tables,
+        table_names,
+        columns,
+        column_names,
+        data_files,
+        delete_files,
+        positions,
+        statistics,
+        scheduled,
+        counts,
+    );
+    if !sound {
+        return NOT_SOUND;
+    }
+    let number = judge_create_schema(snapshots, schemas, schema_names, counts, time, name);
+    if number != ACCEPTED {
+        return number;
+    }
+    let room = has_room(
+        snapshots,
+        schemas,
+        schema_names,
+        tables,
+        table_names,
+        columns,
+        column_names,
+        data_files,
+        delete_files,
+        positions,
+        statistics,
+        scheduled,
+        counts,
+        ONE_SCHEMA,
+    );
+    if !room {
+        return NO_ROOM;
+    }
+    ACCEPTED
+}
