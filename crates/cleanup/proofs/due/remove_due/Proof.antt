@@ -1,0 +1,12 @@
+-- `remove_due` meets its contract: the flags are those of the records that are not due.
+use borrow.Author.Needs.{needs}
+use Rattle.lists.proofs.Flags.{compacted-as}
+use Rattle.cleanup.proofs.due.remove_due.Statement.{statement}
+use Rattle.cleanup.proofs.due.remove_due.Tie as tie
+
+returns : tie.Need-returns
+returns c = let f = c .before .before .before .before .before .before .flag-later .ensures in compacted-as _ (λ j h. f .set j h) (c .before .before .keep-records .ensures)
+
+pub remove-due-spec : {M : Type 1} → statement M
+remove-due-spec =
+    tie.close (tie.spec (λ c. search needs) (λ c κs. search needs) (λ c. search needs) (λ c κs. search needs) (λ c. search needs) returns)

@@ -1,0 +1,2 @@
+// Cleanup: of the scheduled records those that are due are counted, handed out and removed.
+pub mod due;
