@@ -1,6 +1,7 @@
 ghost use mathlib.Core.Path.{_≡_};
 ghost use mathlib.Core.Bool.{true};
-ghost use Rattle.layout.specs.Words.{lent, load, fits};
+ghost use Rattle.layout.specs.Lent.{lentNow, atEntry};
+ghost use Rattle.layout.specs.Words.{load, fits};
 ghost use Rattle.ducklake.specs.Soundness.{soundCatalog, sound};
 use crate::room::capacity;
 use crate::room::is_within;
@@ -10,7 +11,7 @@ use crate::stages::is_ordered;
 use crate::stages::is_placed;
 use layout::outcome::Counts;
 
-// Whether what fits the runs is sound: each step relies on those before it.
+// Whether what fits the runs is sound: each stage relies on those before it.
 fn is_sound_catalog(
     snapshots: &[u64],
     schemas: &[u64],
@@ -26,10 +27,10 @@ fn is_sound_catalog(
     scheduled: &[u64],
     counts: Counts,
 ) -> bool
-    requires { ⌜ fits (lent (now snapshots) (now schemas) (now «schema_names») (now tables) (now «table_names») (now columns) (now «column_names»)
-        (now «data_files») (now «delete_files») (now positions) (now statistics) (now scheduled)) counts ≡ true ⌝ }
-    ensures { λ r. ⌜ r ≡ soundCatalog (load (lent (now (snapshots .entry)) (now (schemas .entry)) (now («schema_names» .entry)) (now (tables .entry)) (now («table_names» .entry)) (now (columns .entry)) (now («column_names» .entry))
-        (now («data_files» .entry)) (now («delete_files» .entry)) (now (positions .entry)) (now (statistics .entry)) (now (scheduled .entry))) counts) ⌝ }
+    requires { ⌜ fits (lentNow snapshots schemas «schema_names» tables «table_names» columns «column_names»
+        «data_files» «delete_files» positions statistics scheduled) counts ≡ true ⌝ }
+    ensures { λ r. ⌜ r ≡ soundCatalog (load (atEntry snapshots schemas «schema_names» tables «table_names» columns «column_names»
+        «data_files» «delete_files» positions statistics scheduled) counts) ⌝ }
 {
     let ordered = is_ordered(
         snapshots,
@@ -100,8 +101,8 @@ pub fn is_sound(
     scheduled: &[u64],
     counts: Counts,
 ) -> bool
-    ensures { λ r. ⌜ r ≡ sound (lent (now (snapshots .entry)) (now (schemas .entry)) (now («schema_names» .entry)) (now (tables .entry)) (now («table_names» .entry)) (now (columns .entry)) (now («column_names» .entry))
-        (now («data_files» .entry)) (now («delete_files» .entry)) (now (positions .entry)) (now (statistics .entry)) (now (scheduled .entry))) counts ⌝ }
+    ensures { λ r. ⌜ r ≡ sound (atEntry snapshots schemas «schema_names» tables «table_names» columns «column_names»
+        «data_files» «delete_files» positions statistics scheduled) counts ⌝ }
 {
     let room = capacity(
         snapshots,

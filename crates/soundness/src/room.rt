@@ -2,9 +2,23 @@ ghost use mathlib.Core.Path.{_≡_};
 ghost use Prim.Native.Nat.{_*_, _/_, _≤_, _<_, min};
 ghost use lib.Dec.{eqb};
 ghost use lib.ListN.{length};
-ghost use Rattle.layout.specs.Words.{lent, positionsBefore, capacity, within};
+ghost use Rattle.layout.specs.Fields.{deleteFileSize};
+ghost use Rattle.layout.specs.Lent.{atEntry};
+ghost use Rattle.layout.specs.Names.{nameSize};
+ghost use Rattle.layout.specs.Words.{tableLimit, positionsBefore, capacity, within};
+use layout::number::NAME_SIZE;
+use layout::number::POSITION_LIMIT;
+use layout::number::TABLE_LIMIT;
 use layout::outcome::Counts;
-use lists::fields::field_at;
+use layout::record::ColumnRecord;
+use layout::record::DataFileRecord;
+use layout::record::DeleteFileRecord;
+use layout::record::ScheduledRecord;
+use layout::record::SchemaRecord;
+use layout::record::SnapshotRecord;
+use layout::record::StatisticsRecord;
+use layout::record::TableRecord;
+use records::delete_file::delete_file_delete_count;
 
 fn smaller(a: usize, b: usize) -> usize
     ensures { λ r. ⌜ r ≡ min a b ⌝ }
@@ -13,6 +27,23 @@ fn smaller(a: usize, b: usize) -> usize
         return a;
     }
     b
+}
+
+// How many records of `size` words a run of so many words has room for.
+fn record_room(words: usize, size: usize) -> usize
+    requires { ⌜ 0 < size ⌝ }
+    ensures { λ r. ⌜ r ≡ min tableLimit (words / size) ⌝ }
+{
+    smaller(TABLE_LIMIT, words / size)
+}
+
+// The same of a table with names, which lends what both its runs hold.
+fn named_room(words: usize, size: usize, bytes: usize) -> usize
+    requires { ⌜ 0 < size ⌝ }
+    ensures { λ r. ⌜ r ≡ min (min tableLimit (words / size)) (bytes / nameSize) ⌝ }
+{
+    let n = record_room(words, size);
+    smaller(n, bytes / NAME_SIZE)
 }
 
 // What each table has room for: the whole records that its runs hold, up to the limit.
@@ -30,31 +61,19 @@ pub fn capacity(
     statistics: &[u64],
     scheduled: &[u64],
 ) -> Counts
-    ensures { λ r. ⌜ r ≡ capacity (lent (now (snapshots .entry)) (now (schemas .entry)) (now («schema_names» .entry)) (now (tables .entry)) (now («table_names» .entry)) (now (columns .entry)) (now («column_names» .entry))
-        (now («data_files» .entry)) (now («delete_files» .entry)) (now (positions .entry)) (now (statistics .entry)) (now (scheduled .entry))) ⌝ }
+    ensures { λ r. ⌜ r ≡ capacity (atEntry snapshots schemas «schema_names» tables «table_names» columns «column_names»
+        «data_files» «delete_files» positions statistics scheduled) ⌝ }
 {
-    let a = smaller(4096, snapshots.len() / 7);
-    let b = smaller(4096, schemas.len() / 3);
-    let b = smaller(b, schema_names.len() / 32);
-    let c = smaller(4096, tables.len() / 5);
-    let c = smaller(c, table_names.len() / 32);
-    let d = smaller(4096, columns.len() / 7);
-    let d = smaller(d, column_names.len() / 32);
-    let e = smaller(4096, data_files.len() / 8);
-    let f = smaller(4096, delete_files.len() / 8);
-    let g = smaller(65536, positions.len());
-    let h = smaller(4096, statistics.len() / 7);
-    let i = smaller(4096, scheduled.len() / 4);
     Counts {
-        snapshots: a,
-        schemas: b,
-        tables: c,
-        columns: d,
-        data_files: e,
-        delete_files: f,
-        positions: g,
-        statistics: h,
-        scheduled: i,
+        snapshots: record_room(snapshots.len(), SnapshotRecord::SIZE),
+        schemas: named_room(schemas.len(), SchemaRecord::SIZE, schema_names.len()),
+        tables: named_room(tables.len(), TableRecord::SIZE, table_names.len()),
+        columns: named_room(columns.len(), ColumnRecord::SIZE, column_names.len()),
+        data_files: record_room(data_files.len(), DataFileRecord::SIZE),
+        delete_files: record_room(delete_files.len(), DeleteFileRecord::SIZE),
+        positions: smaller(POSITION_LIMIT, positions.len()),
+        statistics: record_room(statistics.len(), StatisticsRecord::SIZE),
+        scheduled: record_room(scheduled.len(), ScheduledRecord::SIZE),
     }
 }
 
@@ -75,13 +94,13 @@ pub fn is_within(a: Counts, b: Counts) -> bool
 
 // Whether the delete counts "add up to the used positions". A sum that grows past them is not taken further.
 pub fn positions_add_up(delete_files: &[u64], n: usize, total: usize) -> bool
-    requires { ⌜ 8 * n ≤ length (now «delete_files») ⌝ }
+    requires { ⌜ deleteFileSize * n ≤ length (now «delete_files») ⌝ }
     ensures { λ r. ⌜ r ≡ eqb (positionsBefore (now («delete_files» .entry)) n) total ⌝ }
 {
     let mut sum: usize = 0;
     let mut i: usize = 0;
     while i < n {
-        let count = field_at(delete_files, 8, 5, i) as usize;
+        let count = delete_file_delete_count(delete_files, i) as usize;
         if total - sum < count {
             return false;
         }

@@ -1,22 +1,23 @@
 ghost use mathlib.Core.Path.{_≡_};
 ghost use mathlib.Core.Bool.{true};
-ghost use Rattle.layout.specs.Words.{lent, load, fits};
-ghost use Rattle.soundness.specs.Stages.{ordered, placed, consistent};
-use contents::columns::column_counts_sound;
-use contents::deletes::deletes_sound;
-use contents::rows::row_ranges_sound;
-use contents::statistics::statistics_sound;
-use distinct::files::files_distinct;
-use distinct::files::ids_below_next;
-use distinct::names::names_apart;
+ghost use Rattle.layout.specs.Lent.{lentNow, atEntry};
+ghost use Rattle.layout.specs.Words.{load, fits};
+ghost use Rattle.soundness.specs.Stages.{ordered, placed, consistent, Ordered, Placed};
 use layout::outcome::Counts;
-use relations::lives::lives_sound;
-use relations::nesting::lives_nest;
-use tables::order::ids_ascend;
-use tables::ranges::fields_in_range;
-use tables::snapshots::snapshots_rise;
+use soundness_deletes::deletes::deletes_sound;
+use soundness_deletes::rows::row_ranges_sound;
+use soundness_fields::order::ids_ascend;
+use soundness_fields::ranges::fields_in_range;
+use soundness_fields::snapshots::snapshots_rise;
+use soundness_lives::lives::lives_sound;
+use soundness_lives::nesting::lives_nest;
+use soundness_statistics::columns::column_counts_sound;
+use soundness_statistics::statistics::statistics_sound;
+use soundness_unique::files::files_distinct;
+use soundness_unique::files::ids_below_next;
+use soundness_unique::naming::names_apart;
 
-// Fields in range, snapshots that rise, ids that ascend.
+// The first stage: fields in range, snapshots that rise, ids that ascend.
 pub fn is_ordered(
     snapshots: &[u64],
     schemas: &[u64],
@@ -32,10 +33,10 @@ pub fn is_ordered(
     scheduled: &[u64],
     counts: Counts,
 ) -> bool
-    requires { ⌜ fits (lent (now snapshots) (now schemas) (now «schema_names») (now tables) (now «table_names») (now columns) (now «column_names»)
-        (now «data_files») (now «delete_files») (now positions) (now statistics) (now scheduled)) counts ≡ true ⌝ }
-    ensures { λ r. ⌜ r ≡ ordered (load (lent (now (snapshots .entry)) (now (schemas .entry)) (now («schema_names» .entry)) (now (tables .entry)) (now («table_names» .entry)) (now (columns .entry)) (now («column_names» .entry))
-        (now («data_files» .entry)) (now («delete_files» .entry)) (now (positions .entry)) (now (statistics .entry)) (now (scheduled .entry))) counts) ⌝ }
+    requires { ⌜ fits (lentNow snapshots schemas «schema_names» tables «table_names» columns «column_names»
+        «data_files» «delete_files» positions statistics scheduled) counts ≡ true ⌝ }
+    ensures { λ r. ⌜ r ≡ ordered (load (atEntry snapshots schemas «schema_names» tables «table_names» columns «column_names»
+        «data_files» «delete_files» positions statistics scheduled) counts) ⌝ }
 {
     let a = fields_in_range(
         snapshots,
@@ -64,7 +65,7 @@ pub fn is_ordered(
     a & b & c
 }
 
-// Lives at retained snapshots, ids below the next ones, lives within lives.
+// The second stage: lives at retained snapshots, ids below the next ones, lives within lives.
 pub fn is_placed(
     snapshots: &[u64],
     schemas: &[u64],
@@ -80,12 +81,10 @@ pub fn is_placed(
     scheduled: &[u64],
     counts: Counts,
 ) -> bool
-    requires { ⌜ (fits (lent (now snapshots) (now schemas) (now «schema_names») (now tables) (now «table_names») (now columns) (now «column_names»)
-        (now «data_files») (now «delete_files») (now positions) (now statistics) (now scheduled)) counts ≡ true)
-        × (ordered (load (lent (now snapshots) (now schemas) (now «schema_names») (now tables) (now «table_names») (now columns) (now «column_names»)
-        (now «data_files») (now «delete_files») (now positions) (now statistics) (now scheduled)) counts) ≡ true) ⌝ }
-    ensures { λ r. ⌜ r ≡ placed (load (lent (now (snapshots .entry)) (now (schemas .entry)) (now («schema_names» .entry)) (now (tables .entry)) (now («table_names» .entry)) (now (columns .entry)) (now («column_names» .entry))
-        (now («data_files» .entry)) (now («delete_files» .entry)) (now (positions .entry)) (now (statistics .entry)) (now (scheduled .entry))) counts) ⌝ }
+    requires { ⌜ Ordered (lentNow snapshots schemas «schema_names» tables «table_names» columns «column_names»
+        «data_files» «delete_files» positions statistics scheduled) counts ⌝ }
+    ensures { λ r. ⌜ r ≡ placed (load (atEntry snapshots schemas «schema_names» tables «table_names» columns «column_names»
+        «data_files» «delete_files» positions statistics scheduled) counts) ⌝ }
 {
     let a = lives_sound(
         snapshots,
@@ -109,7 +108,7 @@ pub fn is_placed(
     a & b & c
 }
 
-// Files, names, deletes, row ranges, statistics and column counts.
+// The third stage: files, names, deletes, row ranges, statistics and column counts.
 pub fn is_consistent(
     snapshots: &[u64],
     schemas: &[u64],
@@ -125,14 +124,10 @@ pub fn is_consistent(
     scheduled: &[u64],
     counts: Counts,
 ) -> bool
-    requires { ⌜ (fits (lent (now snapshots) (now schemas) (now «schema_names») (now tables) (now «table_names») (now columns) (now «column_names»)
-        (now «data_files») (now «delete_files») (now positions) (now statistics) (now scheduled)) counts ≡ true)
-        × (ordered (load (lent (now snapshots) (now schemas) (now «schema_names») (now tables) (now «table_names») (now columns) (now «column_names»)
-        (now «data_files») (now «delete_files») (now positions) (now statistics) (now scheduled)) counts) ≡ true)
-        × (placed (load (lent (now snapshots) (now schemas) (now «schema_names») (now tables) (now «table_names») (now columns) (now «column_names»)
-        (now «data_files») (now «delete_files») (now positions) (now statistics) (now scheduled)) counts) ≡ true) ⌝ }
-    ensures { λ r. ⌜ r ≡ consistent (load (lent (now (snapshots .entry)) (now (schemas .entry)) (now («schema_names» .entry)) (now (tables .entry)) (now («table_names» .entry)) (now (columns .entry)) (now («column_names» .entry))
-        (now («data_files» .entry)) (now («delete_files» .entry)) (now (positions .entry)) (now (statistics .entry)) (now (scheduled .entry))) counts) ⌝ }
+    requires { ⌜ Placed (lentNow snapshots schemas «schema_names» tables «table_names» columns «column_names»
+        «data_files» «delete_files» positions statistics scheduled) counts ⌝ }
+    ensures { λ r. ⌜ r ≡ consistent (load (atEntry snapshots schemas «schema_names» tables «table_names» columns «column_names»
+        «data_files» «delete_files» positions statistics scheduled) counts) ⌝ }
 {
     let a = files_distinct(data_files, delete_files, scheduled, counts);
     let b = names_apart(

@@ -13,10 +13,11 @@ use Rattle.layout.specs.Catalog.{Catalog}
 use Rattle.layout.specs.Words.{Words, load, fits}
 use Rattle.ducklake.specs.Soundness.{fieldsInRange, snapshotsRise, livesSound, idsAscend, idsBelowNext, filesDistinct, livesNest, namesApart, deletesSound, rowRangesSound, statisticsSound, columnCountsSound}
 use Rattle.ducklake.specs.Calls.{Call, Result, perform, performFresh}
-use Rattle.ducklake.proofs.Sessions.{passes}
-use Rattle.ducklake.proofs.Diary.{area, toEnd}
+use Rattle.ducklake.proofs.cases.Sessions.{passes}
+use Rattle.ducklake.proofs.cases.Diary.{area, toEnd}
 use Rattle.soundness_cases.specs.Arrays.{runs, used}
-use Rattle.soundness_cases.specs.Tables.{tables, cases, session}
+use Rattle.soundness_cases.specs.Places.{arrayLength, starts, sizes, placeOf}
+use Rattle.soundness_cases.proofs.Tables.{small, cases, session}
 
 -- the array of runs and counts
 array : Words → Counts → List ℕ
@@ -28,17 +29,21 @@ array w c =
 -- each word at its place
 changed : List ℕ → List ℕ → List ℕ
 changed ws [] = ws
-changed ws (at ∷ []) = ws
-changed ws (at ∷ x ∷ rest) = changed (overwrite ws at (x ∷ [])) rest
+changed ws (table ∷ []) = ws
+changed ws (table ∷ i ∷ []) = ws
+changed ws (table ∷ i ∷ field ∷ []) = ws
+changed ws (table ∷ i ∷ field ∷ x ∷ rest) = changed (overwrite ws (placeOf table i field) (x ∷ [])) rest
 
+-- the words of a record, from its first field on
 pieces : List ℕ → List (List ℕ) → List ℕ
 pieces ws [] = ws
 pieces ws ([] ∷ rest) = pieces ws rest
 pieces ws ((tag ∷ []) ∷ rest) = pieces ws rest
-pieces ws ((tag ∷ at ∷ xs) ∷ rest) = pieces (overwrite ws at xs) rest
+pieces ws ((tag ∷ table ∷ []) ∷ rest) = pieces ws rest
+pieces ws ((tag ∷ table ∷ i ∷ xs) ∷ rest) = pieces (overwrite ws (placeOf table i 0) xs) rest
 
 start : List ℕ
-start = pieces (replicate 721 0) tables
+start = pieces (replicate arrayLength 0) small
 
 -- whether each rule holds; the first decides whether there are tables to judge
 rules : List ℕ → List Bool
@@ -58,7 +63,7 @@ breaks (rule ∷ changes) =
     agree (λ k b. same b (not (eqb k rule))) (1 ∷ []) (take 1 bs) && (eqb rule 1 || agree (λ k b. same b (not (eqb k rule))) (range 1 13) bs)
 
 cases-break : all breaks cases ≡ true
-unfolding passes tables cases breaks start rules runs used pieces changed same
+unfolding passes small cases breaks start rules runs used pieces changed same starts sizes placeOf
 cases-break = refl
 
 -- the arrays that the session comes to, call by call
@@ -66,15 +71,16 @@ steps : List ℕ → List (List ℕ) → List (List ℕ)
 steps ws [] = []
 steps ws ([] ∷ rest) = steps ws rest
 steps ws ((tag ∷ []) ∷ rest) = ws ∷ steps ws rest
-steps ws ((tag ∷ at ∷ xs) ∷ rest) = steps (overwrite ws at xs) rest
+steps ws ((tag ∷ table ∷ []) ∷ rest) = steps ws rest
+steps ws ((tag ∷ table ∷ i ∷ xs) ∷ rest) = steps (overwrite ws (placeOf table i 0) xs) rest
 
 left : Result → List Call → List (List ℕ)
 left r [] = array (r .words) (r .counts) ∷ []
 left r (k ∷ ks) = array (r .words) (r .counts) ∷ left (perform k (r .words) (r .counts) area) ks
 
 zeros : List ℕ
-zeros = replicate 721 0
+zeros = replicate arrayLength 0
 
 session-is : agree (agree eqb) (steps zeros session) (left (performFresh 100 (runs zeros) (used zeros) area) toEnd) ≡ true
-unfolding passes session area toEnd steps left zeros array runs used
+unfolding passes session area toEnd steps left zeros array runs used starts sizes placeOf
 session-is = refl

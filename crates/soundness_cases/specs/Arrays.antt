@@ -1,49 +1,50 @@
 -- Tables whose runs and used counts lie in one array, one after another, each name byte a word.
-use Prim.Native.Nat.{ℕ, _+_, _%_}
+use Prim.Native.Nat.{ℕ, _+_, _-_, _%_}
 use mathlib.Core.Bool.{Bool, _&&_}
 use mathlib.Core.List.{List, map}
 use lib.Dec.{eqb}
 use lib.ListN.{length, take, drop, getD}
-use Rattle.lists.specs.Lists.{range}
 use Rattle.layout.specs.declared.outcome.Counts.{Counts}
 use Rattle.layout.specs.Words.{Words}
 use Rattle.ducklake.specs.Soundness.{sound}
+use Rattle.soundness_cases.specs.Places as place
 
--- n words from a place on, as words and as bytes
+-- the words from a place up to another
 abbrev pub piece : ℕ → ℕ → List ℕ → List ℕ
-piece at n ws = take n (drop at ws)
+piece a e ws = take (e - a) (drop a ws)
 
-abbrev pub bytes : ℕ → ℕ → List ℕ → List ℕ
-bytes at n ws = map (λ i. getD ws (at + i) 0 % 256) (range 0 n)
+-- words as bytes
+abbrev pub bytes : List ℕ → List ℕ
+bytes ws = map (λ x. x % 256) ws
 
 unfoldable pub runs : List ℕ → Words
 runs ws = record {
-  snapshots = piece 0 56 ws;
-  schemas = piece 56 15 ws;
-  schemaNames = bytes 273 128 ws;
-  tables = piece 71 20 ws;
-  tableNames = bytes 401 160 ws;
-  columns = piece 91 35 ws;
-  columnNames = bytes 561 160 ws;
-  dataFiles = piece 126 32 ws;
-  deleteFiles = piece 158 32 ws;
-  positions = piece 190 6 ws;
-  statistics = piece 196 52 ws;
-  scheduled = piece 248 16 ws;
+  snapshots = piece 0 place.schemasStart ws;
+  schemas = piece place.schemasStart place.tablesStart ws;
+  schemaNames = bytes (piece place.schemaNamesStart place.tableNamesStart ws);
+  tables = piece place.tablesStart place.columnsStart ws;
+  tableNames = bytes (piece place.tableNamesStart place.columnNamesStart ws);
+  columns = piece place.columnsStart place.dataFilesStart ws;
+  columnNames = bytes (piece place.columnNamesStart place.arrayLength ws);
+  dataFiles = piece place.dataFilesStart place.deleteFilesStart ws;
+  deleteFiles = piece place.deleteFilesStart place.positionsStart ws;
+  positions = piece place.positionsStart place.statisticsStart ws;
+  statistics = piece place.statisticsStart place.scheduledStart ws;
+  scheduled = piece place.scheduledStart place.countsStart ws;
 }
 
 unfoldable pub used : List ℕ → Counts
 used ws = record {
-  snapshots = getD ws 264 0;
-  schemas = getD ws 265 0;
-  tables = getD ws 266 0;
-  columns = getD ws 267 0;
-  «data_files» = getD ws 268 0;
-  «delete_files» = getD ws 269 0;
-  positions = getD ws 270 0;
-  statistics = getD ws 271 0;
-  scheduled = getD ws 272 0;
+  snapshots = getD ws (place.countsStart + place.snapshots) 0;
+  schemas = getD ws (place.countsStart + place.schemas) 0;
+  tables = getD ws (place.countsStart + place.tables) 0;
+  columns = getD ws (place.countsStart + place.columns) 0;
+  «data_files» = getD ws (place.countsStart + place.dataFiles) 0;
+  «delete_files» = getD ws (place.countsStart + place.deleteFiles) 0;
+  positions = getD ws (place.countsStart + place.positions) 0;
+  statistics = getD ws (place.countsStart + place.statistics) 0;
+  scheduled = getD ws (place.countsStart + place.scheduled) 0;
 }
 
 unfoldable pub soundArray : List ℕ → Bool
-soundArray ws = eqb (length ws) 721 && sound (runs ws) (used ws)
+soundArray ws = eqb (length ws) place.arrayLength && sound (runs ws) (used ws)

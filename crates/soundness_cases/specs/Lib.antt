@@ -1,2 +1,2 @@
 pub mod Arrays
-pub mod Tables
+pub mod Places

@@ -1,7 +1,9 @@
-// The lines of specs/Tables.antt, one after another.
+// The lines of proofs/Tables.antt, one after another.
+use crate::places::LENGTH;
+use crate::places::place;
 use crate::small::is_sound_array;
 use crate::text::line_end;
-use crate::text::numbers;
+use crate::text::values;
 
 pub fn say(is_sound: bool) {
     if is_sound {
@@ -11,46 +13,45 @@ pub fn say(is_sound: bool) {
     }
 }
 
-// The word so many places after another, where there is such a place.
-fn put(words: &mut [u64], at: u64, more: usize, x: u64) {
-    let n = words.len();
-    if more < n {
-        if at < (n - more) as u64 {
-            words[at as usize + more] = x;
-        }
+// The word at a place, where there is such a place.
+fn put(words: &mut [u64], at: usize, x: u64) {
+    if at < words.len() {
+        words[at] = x;
     }
 }
 
-// The words after the first two, from the place that the second is.
+// The words after the first three, in a record from its first field on: a table and the record of it are before them.
 fn write_piece(line: &[u64], words: &mut [u64]) {
-    let mut i: usize = 2;
+    let mut i: usize = 3;
     while i < line.len() {
-        put(words, line[1], i - 2, line[i]);
+        let at = place(line[1], line[2], (i - 3) as u64);
+        put(words, at, line[i]);
         i += 1;
     }
 }
 
-// Each second word after the first, at the place that is before it.
-fn write_pairs(line: &[u64], words: &mut [u64]) {
-    let mut i: usize = 2;
+// Each fourth word after the first, in the field of the record of the table that are before it.
+fn write_changes(line: &[u64], words: &mut [u64]) {
+    let mut i: usize = 4;
     while i < line.len() {
-        put(words, line[i - 1], 0, line[i]);
-        i += 2;
+        let at = place(line[i - 3], line[i - 2], line[i - 1]);
+        put(words, at, line[i]);
+        i += 4;
     }
 }
 
 fn copy(from: &[u64], to: &mut [u64]) {
     let mut i: usize = 0;
     while i < from.len() {
-        put(to, 0, i, from[i]);
+        put(to, i, from[i]);
         i += 1;
     }
 }
 
 fn try_case(line: &[u64], tables: &[u64]) {
-    let mut changed = [0u64; 721];
+    let mut changed = [0u64; LENGTH];
     copy(tables, &mut changed);
-    write_pairs(line, &mut changed);
+    write_changes(line, &mut changed);
     say(is_sound_array(&changed));
 }
 
@@ -80,7 +81,7 @@ fn try_line(line: &[u64], tables: &mut [u64], session: &mut [u64]) {
 
 fn read_line(text: &[u8], tables: &mut [u64], session: &mut [u64]) {
     let mut line = [0u64; 128];
-    let count = numbers(text, &mut line);
+    let count = values(text, &mut line);
     try_line(&line[..count], tables, session);
 }
 

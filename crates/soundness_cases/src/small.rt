@@ -1,20 +1,51 @@
-// Tables whose runs and used counts lie in one array of 721 words, one after another, each name byte a word.
+// Tables whose runs and used counts lie in one array, one after another, each name byte a word.
 ghost use mathlib.Core.Path.{_≡_};
-ghost use Prim.Native.Nat.{_+_, _≤_};
 ghost use lib.ListN.{length};
-ghost use Rattle.soundness_cases.specs.Arrays.{bytes, soundArray};
+ghost use Rattle.soundness_cases.specs.Arrays.{bytes, used, soundArray};
+ghost use Rattle.soundness_cases.specs.Places.{arrayLength};
+use crate::places::COLUMN_NAMES;
+use crate::places::COLUMNS;
+use crate::places::COUNTS;
+use crate::places::DATA_FILES;
+use crate::places::DELETE_FILES;
+use crate::places::LENGTH;
+use crate::places::POSITIONS;
+use crate::places::SCHEDULED;
+use crate::places::SCHEMA_NAMES;
+use crate::places::SCHEMAS;
+use crate::places::STATISTICS;
+use crate::places::TABLE_NAMES;
+use crate::places::TABLES;
 use layout::outcome::Counts;
 use soundness::check::is_sound;
 
-// The n words from the place `at` on, as bytes.
-fn bytes_from(words: &[u64], at: usize, n: usize, out: &mut [u8])
-    requires { ⌜ (at + n ≤ length (now words)) × (length (now out) ≡ n) ⌝ }
-    ensures { λ _. ⌜ now (out .exit) ≡ bytes at n (now (words .entry)) ⌝ }
+// Words as bytes.
+fn write_bytes(words: &[u64], out: &mut [u8])
+    requires { ⌜ length (now words) ≡ length (now out) ⌝ }
+    ensures { λ _. ⌜ now (out .exit) ≡ bytes (now (words .entry)) ⌝ }
 {
     let mut i: usize = 0;
-    while i < n {
-        out[i] = (words[at + i] % 256) as u8;
+    while i < words.len() {
+        out[i] = (words[i] % 256) as u8;
         i += 1;
+    }
+}
+
+// The used counts, in the order of the tables.
+fn used_counts(words: &[u64]) -> Counts
+    requires { ⌜ length (now words) ≡ arrayLength ⌝ }
+    ensures { λ r. ⌜ r ≡ used (now (words .entry)) ⌝ }
+{
+    Counts {
+        snapshots: words[COUNTS] as usize,
+        schemas: words[COUNTS + 1] as usize,
+        tables: words[COUNTS + 2] as usize,
+        columns: words[COUNTS + 3] as usize,
+        data_files: words[COUNTS + 4] as usize,
+        delete_files: words[COUNTS + 5] as usize,
+        positions: words[COUNTS + 6] as usize,
+        statistics: words[COUNTS + 7] as usize,
+        scheduled: words[COUNTS + 8] as usize,
     }
 }
 
@@ -22,39 +53,29 @@ fn bytes_from(words: &[u64], at: usize, n: usize, out: &mut [u8])
 pub fn is_sound_array(words: &[u64]) -> bool
     ensures { λ r. ⌜ r ≡ soundArray (now (words .entry)) ⌝ }
 {
-    if words.len() != 721 {
+    if words.len() != LENGTH {
         return false;
     }
-    let mut schema_names = [0u8; 128];
-    bytes_from(words, 273, 128, &mut schema_names);
-    let mut table_names = [0u8; 160];
-    bytes_from(words, 401, 160, &mut table_names);
-    let mut column_names = [0u8; 160];
-    bytes_from(words, 561, 160, &mut column_names);
-    let counts = Counts {
-        snapshots: words[264] as usize,
-        schemas: words[265] as usize,
-        tables: words[266] as usize,
-        columns: words[267] as usize,
-        data_files: words[268] as usize,
-        delete_files: words[269] as usize,
-        positions: words[270] as usize,
-        statistics: words[271] as usize,
-        scheduled: words[272] as usize,
-    };
+    let mut schema_names = [0u8; TABLE_NAMES - SCHEMA_NAMES];
+    write_bytes(&words[SCHEMA_NAMES..TABLE_NAMES], &mut schema_names);
+    let mut table_names = [0u8; COLUMN_NAMES - TABLE_NAMES];
+    write_bytes(&words[TABLE_NAMES..COLUMN_NAMES], &mut table_names);
+    let mut column_names = [0u8; LENGTH - COLUMN_NAMES];
+    write_bytes(&words[COLUMN_NAMES..LENGTH], &mut column_names);
+    let counts = used_counts(words);
     is_sound(
-        &words[0..56],
-        &words[56..71],
+        &words[0..SCHEMAS],
+        &words[SCHEMAS..TABLES],
         &schema_names,
-        &words[71..91],
+        &words[TABLES..COLUMNS],
         &table_names,
-        &words[91..126],
+        &words[COLUMNS..DATA_FILES],
         &column_names,
-        &words[126..158],
-        &words[158..190],
-        &words[190..196],
-        &words[196..248],
-        &words[248..264],
+        &words[DATA_FILES..DELETE_FILES],
+        &words[DELETE_FILES..POSITIONS],
+        &words[POSITIONS..STATISTICS],
+        &words[STATISTICS..SCHEDULED],
+        &words[SCHEDULED..COUNTS],
         counts,
     )
 }

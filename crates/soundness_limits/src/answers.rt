@@ -4,8 +4,12 @@ ghost use Prim.Native.Nat.{_+_, _≤_};
 ghost use Rattle.lists.specs.Lists.{bit};
 ghost use Rattle.layout.specs.Words.{positionLimit};
 ghost use Rattle.soundness_limits.specs.Limits.{full};
+use layout::number::COLUMN_LIMIT;
+use layout::number::POSITION_LIMIT;
+use layout::number::TABLE_LIMIT;
 use layout::outcome::Counts;
-use samples::fill_columns_of_one;
+use layout::record::ColumnRecord;
+use limit_tables::fill_columns_of_one;
 use soundness::check::is_sound;
 
 // As many as may be used, or one more.
@@ -23,15 +27,15 @@ fn most(limit: usize, more: bool) -> usize
 pub fn full(k: u64) -> Counts
     ensures { λ r. ⌜ r ≡ full k ⌝ }
 {
-    let a = most(4096, k == 1);
-    let b = most(4096, k == 2);
-    let c = most(4096, k == 3);
-    let d = most(4096, k == 4);
-    let e = most(4096, k == 5);
-    let f = most(4096, k == 6);
-    let g = most(65536, k == 7);
-    let h = most(4096, k == 8);
-    let i = most(4096, k == 9);
+    let a = most(TABLE_LIMIT, k == 1);
+    let b = most(TABLE_LIMIT, k == 2);
+    let c = most(TABLE_LIMIT, k == 3);
+    let d = most(TABLE_LIMIT, k == 4);
+    let e = most(TABLE_LIMIT, k == 5);
+    let f = most(TABLE_LIMIT, k == 6);
+    let g = most(POSITION_LIMIT, k == 7);
+    let h = most(TABLE_LIMIT, k == 8);
+    let i = most(TABLE_LIMIT, k == 9);
     Counts {
         snapshots: a,
         schemas: b,
@@ -48,15 +52,15 @@ pub fn full(k: u64) -> Counts
 // One table of so many columns and no file.
 fn one_table(columns: usize) -> Counts {
     Counts {
-        snapshots: 4096,
-        schemas: 4096,
+        snapshots: TABLE_LIMIT,
+        schemas: TABLE_LIMIT,
         tables: 1,
         columns: columns,
         data_files: 0,
         delete_files: 0,
         positions: 0,
         statistics: 0,
-        scheduled: 4096,
+        scheduled: TABLE_LIMIT,
     }
 }
 
@@ -68,7 +72,7 @@ fn say(is_sound: bool) {
     }
 }
 
-// The tables full, then each in turn with one record more, then a table of 16 and of 17 columns.
+// The tables full, then each in turn with one record more, then a table of as many columns as it may have, and of one more.
 pub fn write_answers(
     snapshots: &[u64],
     schemas: &[u64],
@@ -102,10 +106,10 @@ pub fn write_answers(
         ));
         k += 1;
     }
-    let mut of_one = [0u64; 119];
+    let mut of_one = [0u64; (COLUMN_LIMIT + 1) * ColumnRecord::SIZE];
     fill_columns_of_one(&mut of_one);
-    let mut n: usize = 16;
-    while n < 18 {
+    let mut n = COLUMN_LIMIT;
+    while n < COLUMN_LIMIT + 2 {
         say(is_sound(
             snapshots,
             schemas,

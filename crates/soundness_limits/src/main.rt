@@ -5,6 +5,17 @@ mod times;
 use crate::answers::write_answers;
 use crate::times::Times;
 use crate::times::measure;
+use layout::number::NAME_SIZE;
+use layout::number::POSITION_LIMIT;
+use layout::record::ColumnRecord;
+use layout::record::DataFileRecord;
+use layout::record::DeleteFileRecord;
+use layout::record::ScheduledRecord;
+use layout::record::SchemaRecord;
+use layout::record::SnapshotRecord;
+use layout::record::StatisticsRecord;
+use layout::record::TableRecord;
+use limit_tables::RECORDS;
 use std::num::wrapping_add_u64;
 
 const ROUNDS: u64 = 10;
@@ -12,30 +23,30 @@ const ROUNDS: u64 = 10;
 // Fills tables with room for one record more than they may have, and judges them. Each round fills them anew, since the compiler lets one check of
 // words that stay as they are stand for all.
 fn round(timed: bool) -> Times {
-    let mut snapshots = [0u64; 28679];
-    let mut schemas = [0u64; 12291];
-    let mut schema_names = [0u8; 131104];
-    let mut tables = [0u64; 20485];
-    let mut table_names = [0u8; 131104];
-    let mut columns = [0u64; 28679];
-    let mut column_names = [0u8; 131104];
-    let mut data_files = [0u64; 32776];
-    let mut delete_files = [0u64; 32776];
-    let mut positions = [0u64; 65537];
-    let mut statistics = [0u64; 28679];
-    let mut scheduled = [0u64; 16388];
-    samples::fill_snapshots(&mut snapshots);
-    samples::fill_schemas(&mut schemas);
-    samples::fill_names(&mut schema_names);
-    samples::fill_tables(&mut tables);
-    samples::fill_names(&mut table_names);
-    samples::fill_columns(&mut columns);
-    samples::fill_names(&mut column_names);
-    samples::fill_data_files(&mut data_files);
-    samples::fill_delete_files(&mut delete_files);
-    samples::fill_positions(&mut positions);
-    samples::fill_statistics(&mut statistics);
-    samples::fill_scheduled(&mut scheduled);
+    let mut snapshots = [0u64; RECORDS * SnapshotRecord::SIZE];
+    let mut schemas = [0u64; RECORDS * SchemaRecord::SIZE];
+    let mut schema_names = [0u8; RECORDS * NAME_SIZE];
+    let mut tables = [0u64; RECORDS * TableRecord::SIZE];
+    let mut table_names = [0u8; RECORDS * NAME_SIZE];
+    let mut columns = [0u64; RECORDS * ColumnRecord::SIZE];
+    let mut column_names = [0u8; RECORDS * NAME_SIZE];
+    let mut data_files = [0u64; RECORDS * DataFileRecord::SIZE];
+    let mut delete_files = [0u64; RECORDS * DeleteFileRecord::SIZE];
+    let mut positions = [0u64; POSITION_LIMIT + 1];
+    let mut statistics = [0u64; RECORDS * StatisticsRecord::SIZE];
+    let mut scheduled = [0u64; RECORDS * ScheduledRecord::SIZE];
+    limit_tables::fill_snapshots(&mut snapshots);
+    limit_tables::fill_schemas(&mut schemas);
+    limit_tables::fill_names(&mut schema_names);
+    limit_tables::fill_tables(&mut tables);
+    limit_tables::fill_names(&mut table_names);
+    limit_tables::fill_columns(&mut columns);
+    limit_tables::fill_names(&mut column_names);
+    limit_tables::fill_data_files(&mut data_files);
+    limit_tables::fill_delete_files(&mut delete_files);
+    limit_tables::fill_positions(&mut positions);
+    limit_tables::fill_statistics(&mut statistics);
+    limit_tables::fill_scheduled(&mut scheduled);
     if !timed {
         write_answers(
             &snapshots,

@@ -1,6 +1,6 @@
 // How long a check takes, against a plain pass over the same runs.
 ghost use mathlib.Core.Path.{_≡_};
-ghost use Rattle.layout.specs.Words.{lent};
+ghost use Rattle.layout.specs.Lent.{atEntry};
 ghost use Rattle.ducklake.specs.Soundness.{sound};
 ghost use Rattle.soundness_limits.specs.Limits.{full};
 use crate::answers::full;
@@ -97,8 +97,8 @@ pub fn measure(
     statistics: &[u64],
     scheduled: &[u64],
 ) -> Times
-    ensures { λ r. ⌜ r .sound ≡ sound (lent (now (snapshots .entry)) (now (schemas .entry)) (now («schema_names» .entry)) (now (tables .entry)) (now («table_names» .entry)) (now (columns .entry)) (now («column_names» .entry))
-        (now («data_files» .entry)) (now («delete_files» .entry)) (now (positions .entry)) (now (statistics .entry)) (now (scheduled .entry))) (full 0) ⌝ }
+    ensures { λ r. ⌜ r .sound ≡ sound (atEntry snapshots schemas «schema_names» tables «table_names» columns «column_names»
+        «data_files» «delete_files» positions statistics scheduled) (full 0) ⌝ }
 {
     let counts = full(0);
     let start = ticks();

@@ -1,3 +1,4 @@
+-- `rounds` is safe and ends: it counts up to the number of rounds.
 use borrow.Author.Needs.{needs}
 use Prim.Native.Nat.{_-_, _≤_}
 use Rattle.soundness_limits.proofs.rounds.Statement.{statement}

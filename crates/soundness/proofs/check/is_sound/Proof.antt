@@ -1,9 +1,10 @@
+-- `is_sound` meets its contract: tables without room are not sound, and those with room are as their stages are.
 use borrow.Author.Needs.{needs}
 use mathlib.Core.Path.{ap, _∙_}
 use Rattle.lists.proofs.Tests.{passed, failed}
 use Rattle.layout.specs.Words.{within}
 use Rattle.layout.proofs.Room.{held}
-use Rattle.soundness.proofs.Steps.{without-room, not-adding-up, with-room, sound-is}
+use Rattle.soundness.proofs.StageLaws.{without-room, not-adding-up, with-room, sound-is}
 use Rattle.soundness.proofs.check.is_sound.Statement.{statement}
 use Rattle.soundness.proofs.check.is_sound.Tie as tie
 

@@ -1,3 +1,4 @@
+-- `is_within` meets its contract: the definition compares the same counts.
 use mathlib.Core.Path.{refl}
 use Rattle.layout.specs.Words.{within}
 use Rattle.soundness.proofs.room.is_within.Statement.{statement}

@@ -1,3 +1,4 @@
+-- `positions_add_up` meets its contract: the sum so far is that of the delete files passed, and sums never fall.
 use borrow.Author.Needs.{needs}
 use borrow.Author.Tests.{ne-eqb}
 use Prim.Native.Nat.{ℕ, _+_, _-_, _≤_, _<_}
@@ -7,15 +8,12 @@ use mathlib.Core.List.{List}
 use native.Mathlib.Omega.{arith}
 use native.Mathlib.Numerals.{add-one}
 use lib.Dec.{eqb}
-use Rattle.lists.specs.Runs.{field}
-use Rattle.layout.specs.Records.{readDeleteFile}
-use Rattle.layout.specs.Words.{positionsBefore}
-use Rattle.layout.proofs.RoundTrip.{positions-first, positions-then, positions-grow}
+use Rattle.layout.specs.Words.{deleteCount, positionsBefore, positions-first, positions-then}
+use Rattle.layout.proofs.RoundTrip.{positions-grow}
 use Rattle.soundness.proofs.room.positions_add_up.Statement.{statement}
 use Rattle.soundness.proofs.room.positions_add_up.Tie as tie
 
-positions-next : (run : List ℕ) (i : ℕ) → positionsBefore run (i + 1) ≡ positionsBefore run i + field 8 5 run i
-unfolding field readDeleteFile
+positions-next : (run : List ℕ) (i : ℕ) → positionsBefore run (i + 1) ≡ positionsBefore run i + deleteCount run i
 positions-next run i = ap (positionsBefore run) (add-one i) ∙ positions-then run i
 
 abbrev Inv-loop : tie.InvT-loop
@@ -28,18 +26,18 @@ loop-holds : tie.Need-loop-holds Inv-loop μ-loop
 loop-holds c = (omega arith, sym (positions-first _), omega arith)
 
 -- a sum that grows past the total
-past : (run : List ℕ) (i n : ℕ) {sum count total : ℕ} → sum ≡ positionsBefore run i → count ≡ field 8 5 run i → i < n → total - sum < count → sum ≤ total → eqb (positionsBefore run n) total ≡ false
+past : (run : List ℕ) (i n : ℕ) {sum count total : ℕ} → sum ≡ positionsBefore run i → count ≡ deleteCount run i → i < n → total - sum < count → sum ≤ total → eqb (positionsBefore run n) total ≡ false
 past run i n e f h l m = ne-eqb _ _ (λ (q : positionsBefore run n ≡ _). omega (arith, positions-next run i, positions-grow run (i + 1) n (omega arith)))
 
 returns : tie.Need-returns Inv-loop μ-loop
 returns c =
     let s = c .before .before .before .loop in
-    sym (past _ (s .i) _ (s .inv .1) (c .before .field-at .ensures) (c .before .before .loop-test .taken) (c .if1 .taken) (s .inv .2))
+    sym (past _ (s .i) _ (s .inv .1) (c .before .delete-file-delete-count .ensures) (c .before .before .loop-test .taken) (c .if1 .taken) (s .inv .2))
 
 loop-again : tie.Need-loop-again Inv-loop μ-loop
 loop-again c =
     let s = c .before .before .before in
-    (omega arith, ap₂ _+_ (s .loop .inv .1) (c .before .field-at .ensures) ∙ sym (positions-next (s .before .before .args .delete-files .now) (s .loop .i)), omega (arith, c .if1 .left))
+    (omega arith, ap₂ _+_ (s .loop .inv .1) (c .before .delete-file-delete-count .ensures) ∙ sym (positions-next (s .before .before .args .delete-files .now) (s .loop .i)), omega (arith, c .if1 .left))
 
 returns-2 : tie.Need-returns-2 Inv-loop μ-loop
 returns-2 c =

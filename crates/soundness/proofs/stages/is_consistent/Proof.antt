@@ -1,58 +1,26 @@
-use native.Mathlib.Omega.{arith}
-use Rattle.layout.proofs.Room.{fitting}
-use Rattle.soundness.proofs.Steps.{ordering, placing, consistent-is}
+-- `is_consistent` meets its contract: its parts are those of the stage, of the words that it is lent.
+use borrow.Author.Needs.{needs}
+use mathlib.Core.Path.{refl}
+use Rattle.layout.specs.Words.{Words, lent, load}
+use Rattle.soundness.proofs.StageLaws.{lives-found, files-by-id, named, deletes-checkable, row-ranges-checkable, statistics-checkable, tables-and-columns, consistent-is}
 use Rattle.soundness.proofs.stages.is_consistent.Statement.{statement}
 use Rattle.soundness.proofs.stages.is_consistent.Tie as tie
 
-files-distinct-requires : tie.Need-files-distinct-requires
-files-distinct-requires c κs =
-    let p = c .before .before .before .before .before .before .before .before .before .before .before .before .pre in
-    let h = fitting _ _ (p .0) .0 in
-    let o = ordering _ _ (p .1) in
-    (h .dataFiles, o .dataFiles, h .deleteFiles, o .deleteFiles, h .scheduled)
-
-names-apart-requires : tie.Need-names-apart-requires
-names-apart-requires c κs =
-    let p = c .before .before .before .before .before .before .before .before .before .before .before .before .before .pre in
-    let h = fitting _ _ (p .0) .0 in
-    let o = ordering _ _ (p .1) in
-    (h .schemas, h .schemaNames, h .tables, h .tableNames, h .columns, h .columnNames, o .columns, o .columnTables)
-
-deletes-sound-requires : tie.Need-deletes-sound-requires
-deletes-sound-requires c κs =
-    let p = c .before .before .before .before .before .before .before .before .before .before .before .before .before .before .pre in
-    let k = fitting _ _ (p .0) in
-    let h = k .0 in
-    (h .dataFiles, h .dataFilesMost, ordering _ _ (p .1) .dataFiles, h .deleteFiles, h .deleteFilesMost, omega (arith, k .1, h .positions), omega (arith, k .1, h .positionsMost), placing _ _ (p .2) .deleteFiles)
-
-row-ranges-sound-requires : tie.Need-row-ranges-sound-requires
-row-ranges-sound-requires c κs =
-    let p = c .before .before .before .before .before .before .before .before .before .before .before .before .before .before .before .pre in
-    let h = fitting _ _ (p .0) .0 in
-    let o = ordering _ _ (p .1) in
-    (h .tables, h .tablesMost, o .tables, h .dataFiles, o .dataFileRanges)
-
-statistics-sound-requires : tie.Need-statistics-sound-requires
-statistics-sound-requires c κs =
-    let p = c .before .before .before .before .before .before .before .before .before .before .before .before .before .before .before .before .pre in
-    let h = fitting _ _ (p .0) .0 in
-    let o = ordering _ _ (p .1) in
-    (h .columns, o .columns, h .dataFiles, o .dataFiles, o .dataFileRanges, h .statistics, o .statistics)
-
-column-counts-sound-requires : tie.Need-column-counts-sound-requires
-column-counts-sound-requires c κs =
-    let p = c .before .before .before .before .before .before .before .before .before .before .before .before .before .before .before .before .before .pre in
-    let h = fitting _ _ (p .0) .0 in
-    let o = ordering _ _ (p .1) in
-    (h .tables, o .tables, o .tableIds, h .columns, o .columns)
-
 returns : tie.Need-returns
 returns c =
-    let q = placing _ _ (c .before .before .before .before .before .before .before .before .before .before .before .before .before .before .before .before .before .before .pre .2) in
-    consistent-is _ _ (c .before .before .before .before .before .files-distinct .ensures _) (c .before .before .before .before .names-apart .ensures) (c .before .before .before .deletes-sound .ensures) (c .before .before .row-ranges-sound .ensures _) (c .before .statistics-sound .ensures _)
-    (c .column-counts-sound .ensures _ _ _ (q .tables) (q .columns))
+    let s = c .before .before .before in
+    let called = s .before .before .before in
+    let b = called .before .before .before .before .before .before .before .before .before .before .before .before in
+    let a = b .args in
+    let w : Words = lent (a .snapshots .now) (a .schemas .now) (a .schema-names .now) (a .tables .now) (a .table-names .now) (a .columns .now) (a .column-names .now)
+    (a .data-files .now) (a .delete-files .now) (a .positions .now) (a .statistics .now) (a .scheduled .now) in
+    let l = lives-found (b .pre) in
+    consistent-is (load w (a .counts)) (s .before .before .files-distinct .ensures w refl refl refl) (s .before .names-apart .ensures w refl refl refl refl refl refl) (s .deletes-sound .ensures w refl refl refl)
+    (c .before .before .row-ranges-sound .ensures w refl refl) (c .before .statistics-sound .ensures w refl refl refl) (c .column-counts-sound .ensures w refl refl (l .0) (l .1))
 
 pub is-consistent-spec : {M : Type 1} → statement M
 is-consistent-spec =
     tie.close
-    (tie.spec files-distinct-requires names-apart-requires deletes-sound-requires row-ranges-sound-requires statistics-sound-requires column-counts-sound-requires returns)
+    (tie.spec
+    (λ c κs. search (needs, files-by-id)) (λ c κs. search (needs, named)) (λ c κs. search (needs, deletes-checkable)) (λ c κs. search (needs, row-ranges-checkable))
+    (λ c κs. search (needs, statistics-checkable)) (λ c κs. search (needs, tables-and-columns)) returns)

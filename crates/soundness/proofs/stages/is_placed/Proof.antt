@@ -1,30 +1,20 @@
-use Rattle.layout.proofs.Room.{fitting}
-use Rattle.soundness.proofs.Steps.{ordering, placed-is}
+-- `is_placed` meets its contract: its parts are those of the stage, of the words that it is lent.
+use borrow.Author.Needs.{needs}
+use mathlib.Core.Path.{refl}
+use Rattle.layout.specs.Words.{Words, lent, load}
+use Rattle.soundness.proofs.StageLaws.{lives-lent, numbered, nestable, placed-is}
 use Rattle.soundness.proofs.stages.is_placed.Statement.{statement}
 use Rattle.soundness.proofs.stages.is_placed.Tie as tie
 
-lives-sound-requires : tie.Need-lives-sound-requires
-lives-sound-requires c κs =
-    let p = c .before .before .before .before .before .before .before .before .before .before .before .before .pre in
-    let h = fitting _ _ (p .0) .0 in
-    let o = ordering _ _ (p .1) in
-    (h .snapshots, o .snapshots, o .some, h .schemas, h .tables, h .columns, h .dataFiles, h .deleteFiles)
-
-ids-below-next-requires : tie.Need-ids-below-next-requires
-ids-below-next-requires c κs =
-    let p = c .before .before .before .before .before .before .before .before .before .before .before .before .before .pre in
-    let h = fitting _ _ (p .0) .0 in
-    (h .snapshots, ordering _ _ (p .1) .some, h .schemas, h .tables, h .dataFiles, h .deleteFiles, h .scheduled)
-
-lives-nest-requires : tie.Need-lives-nest-requires
-lives-nest-requires c κs =
-    let p = c .before .before .before .before .before .before .before .before .before .before .before .before .before .before .pre in
-    let h = fitting _ _ (p .0) .0 in
-    let o = ordering _ _ (p .1) in
-    (h .schemas, o .schemas, h .tables, o .tables, h .columns, h .dataFiles, o .dataFiles, h .deleteFiles)
-
 returns : tie.Need-returns
-returns c = placed-is _ _ (c .before .before .lives-sound .ensures _ _ _ _) (c .before .ids-below-next .ensures _ _ _) (c .lives-nest .ensures _ _ _ _)
+returns c =
+    let called = c .before .before .before in
+    let a = called .before .before .before .before .before .before .before .before .before .before .before .before .args in
+    let w : Words = lent (a .snapshots .now) (a .schemas .now) (a .schema-names .now) (a .tables .now) (a .table-names .now) (a .columns .now) (a .column-names .now)
+    (a .data-files .now) (a .delete-files .now) (a .positions .now) (a .statistics .now) (a .scheduled .now) in
+    placed-is (load w (a .counts)) (c .before .before .lives-sound .ensures w refl refl refl refl refl refl) (c .before .ids-below-next .ensures w refl refl refl refl refl refl) (c .lives-nest .ensures w refl refl refl refl refl)
 
 pub is-placed-spec : {M : Type 1} → statement M
-is-placed-spec = tie.close (tie.spec lives-sound-requires ids-below-next-requires lives-nest-requires returns)
+is-placed-spec =
+    tie.close
+    (tie.spec (λ c κs. search (needs, lives-lent)) (λ c κs. search (needs, numbered)) (λ c κs. search (needs, nestable)) returns)

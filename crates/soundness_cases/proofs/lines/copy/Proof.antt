@@ -1,3 +1,4 @@
+-- `copy` is safe and ends: a word on at each turn.
 use borrow.Author.Needs.{needs}
 use Prim.Native.Nat.{_-_, _≤_}
 use mathlib.Core.Path.{_≡_, refl}

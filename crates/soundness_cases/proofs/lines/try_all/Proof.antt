@@ -1,3 +1,4 @@
+-- `try_all` is safe and ends: each line ends behind its start.
 use borrow.Author.Needs.{needs}
 use Prim.Native.Nat.{_+_, _-_}
 use mathlib.Core.Path.{_≡_, refl}

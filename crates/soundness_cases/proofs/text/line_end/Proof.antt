@@ -1,3 +1,4 @@
+-- `line_end` meets its contract: the place lies between its start and the end of the text.
 use borrow.Author.Needs.{needs}
 use Prim.Native.Nat.{_-_, _≤_}
 use lib.ListN.{length}

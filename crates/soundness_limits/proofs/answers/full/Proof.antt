@@ -1,14 +1,16 @@
+-- `full` meets its contract: each count by itself.
 use borrow.Author.Needs.{needs}
 use Prim.Native.Nat.{ℕ, _+_}
 use mathlib.Core.Path.{_≡_, refl}
 use lib.Dec.{eqb}
 use Rattle.lists.specs.Lists.{bit}
+use Rattle.layout.specs.Words.{tableLimit, positionLimit}
 use Rattle.soundness_limits.specs.Limits.{full}
 use Rattle.soundness_limits.proofs.answers.full.Statement.{statement}
 use Rattle.soundness_limits.proofs.answers.full.Tie as tie
 
-full-is : (k : ℕ) {a b c d e f g h i : ℕ} → a ≡ 4096 + bit (eqb k 1) → b ≡ 4096 + bit (eqb k 2) → c ≡ 4096 + bit (eqb k 3) → d ≡ 4096 + bit (eqb k 4)
-    → e ≡ 4096 + bit (eqb k 5) → f ≡ 4096 + bit (eqb k 6) → g ≡ 65536 + bit (eqb k 7) → h ≡ 4096 + bit (eqb k 8) → i ≡ 4096 + bit (eqb k 9)
+full-is : (k : ℕ) {a b c d e f g h i : ℕ} → a ≡ tableLimit + bit (eqb k 1) → b ≡ tableLimit + bit (eqb k 2) → c ≡ tableLimit + bit (eqb k 3) → d ≡ tableLimit + bit (eqb k 4)
+    → e ≡ tableLimit + bit (eqb k 5) → f ≡ tableLimit + bit (eqb k 6) → g ≡ positionLimit + bit (eqb k 7) → h ≡ tableLimit + bit (eqb k 8) → i ≡ tableLimit + bit (eqb k 9)
     → record { snapshots = a; schemas = b; tables = c; columns = d; «data_files» = e; «delete_files» = f; positions = g; statistics = h; scheduled = i } ≡ full k
 unfolding full
 full-is k p q r s t u v x y = rw (p, q, r, s, t, u, v, x, y) refl

@@ -1,3 +1,4 @@
+-- `most` meets its contract, with one more and without.
 use borrow.Author.Needs.{needs}
 use mathlib.Core.Path.{refl}
 use native.Mathlib.Nat.{add-zero}

@@ -1,3 +1,4 @@
+-- `add_bytes` is safe and ends: a place below the length.
 use borrow.Author.Needs.{needs}
 use Prim.Native.Nat.{_-_, _≤_}
 use lib.ListN.{length}

@@ -1,3 +1,4 @@
+-- `measure` meets its contract: the answer is that of the check.
 use borrow.Author.Needs.{needs}
 use mathlib.Core.Path.{ap, _∙_}
 use Rattle.ducklake.specs.Soundness.{sound}

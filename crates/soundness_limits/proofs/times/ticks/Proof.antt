@@ -1,3 +1,4 @@
+-- `ticks` is safe: a clock that is not below 0 fits the unsigned type.
 use borrow.Author.Needs.{needs}
 use mathlib.Core.Path.{_≡_}
 use mathlib.Core.Bool.{false}

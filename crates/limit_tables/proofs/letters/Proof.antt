@@ -1,0 +1,23 @@
+-- `letters` is safe and ends: every place is tested against the run before it is written.
+use borrow.Author.Needs.{needs}
+use Prim.Native.Nat.{_+_, _-_, _≤_}
+use mathlib.Core.Path.{_≡_, refl}
+use native.Mathlib.Omega.{arith}
+use lib.ListN.{length, length-set}
+use Rattle.layout.specs.Words.{tableLimit}
+use Rattle.limit_tables.proofs.letters.Statement.{statement}
+use Rattle.limit_tables.proofs.letters.Tie as tie
+
+abbrev Inv-loop : tie.InvT-loop
+Inv-loop w₀ at each i₀ w i = (i ≤ tableLimit + 1) × (length w ≡ length w₀)
+
+abbrev μ-loop : tie.MeasureT-loop
+μ-loop w₀ at each i₀ w i = tableLimit + 1 - i
+
+loop-again : tie.Need-loop-again Inv-loop μ-loop
+loop-again c = (omega arith, rw length-set (c .before .before .loop .inv .1))
+
+pub letters-spec : {M : Type 1} → statement M
+letters-spec =
+    tie.close
+    (tie.spec Inv-loop μ-loop (λ c. (omega arith, refl)) (λ c. search needs) (λ c. search needs) (λ c. search needs) (λ c. search needs) (λ c. search needs) (λ c. search needs) (λ c. search needs) (λ c. search needs) loop-again (λ c. search needs) (λ c. search needs) (λ c. search needs) (λ c. search needs))

@@ -1,0 +1,2 @@
+pub mod DeleteFiles
+pub mod RowRanges

@@ -1,0 +1,39 @@
+-- `deletes_sound` meets its contract: its two parts are those of the definition, over the runs that the words have.
+use borrow.Author.Needs.{needs}
+use mathlib.Core.Path.{refl, sym, _∙_}
+use mathlib.Core.Bool.{and-true, and-false}
+use Rattle.lists.proofs.Loops.{filled-taken}
+use Rattle.lists.proofs.Tests.{passed, failed}
+use Rattle.layout.specs.Words.{load}
+use Rattle.ducklake.specs.Soundness.{deletesSound}
+use Rattle.soundness_deletes.proofs.DeleteFiles.{located}
+use Rattle.soundness_deletes.proofs.deletes.deletes_sound.Statement.{statement}
+use Rattle.soundness_deletes.proofs.deletes.deletes_sound.Tie as tie
+
+all-positions-sound-requires : tie.Need-all-positions-sound-requires
+all-positions-sound-requires c κs =
+    let s = c .before .before in
+    let p = s .before .before .before .before .before .pre in
+    (p .dataFilesById, located p (filled-taken _ _ _ (s .position-starts .ensures)))
+
+returns : tie.Need-returns
+unfolding load deletesSound
+returns c w f d x = rw (f, d, x) (sym (rw (failed (c .before .all-positions-sound .ensures) (c .if1 .taken), and-false) refl))
+
+all-delete-files-apart-requires : tie.Need-all-delete-files-apart-requires
+all-delete-files-apart-requires c κs =
+    let t = c .before .before in
+    let s = t .before .before .before in
+    let p = s .before .before .before .before .before .pre in
+    record { checkable = p; located = located p (filled-taken _ _ _ (s .position-starts .ensures)); sound = passed (t .all-positions-sound .ensures) (c .before .if1 .left) }
+
+returns-2 : tie.Need-returns-2
+unfolding load deletesSound
+returns-2 c w f d x =
+    let t = c .before .before .before in
+    rw (f, d, x) (c .all-delete-files-apart .ensures ∙ sym (rw (passed (t .all-positions-sound .ensures) (c .before .before .if1 .left), and-true) refl))
+
+pub deletes-sound-spec : {M : Type 1} → statement M
+deletes-sound-spec =
+    tie.close
+    (tie.spec (λ c. search needs) (λ c κs. search needs) (λ c. search needs) all-positions-sound-requires returns (λ c. search needs) all-delete-files-apart-requires returns-2)

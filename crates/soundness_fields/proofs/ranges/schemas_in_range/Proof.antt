@@ -1,0 +1,20 @@
+-- `schemas_in_range` meets its contract: a schema is in range where each of its fields is.
+use borrow.Author.Needs.{needs}
+use mathlib.Core.Path.{sym, _∙_}
+use Rattle.lists.specs.Lists.{range}
+use Rattle.lists.specs.Runs.{field}
+use Rattle.lists.proofs.Selections.{all-map}
+use Rattle.ducklake.specs.Soundness.{schemaInRange}
+use Rattle.soundness_fields.proofs.RecordTests.{one-field, and-field}
+use Rattle.soundness_fields.proofs.ranges.schemas_in_range.Statement.{statement}
+use Rattle.soundness_fields.proofs.ranges.schemas_in_range.Tie as tie
+
+returns : tie.Need-returns
+unfolding field schemaInRange
+returns c =
+    and-field _ _ _ _ (one-field _ _ _ (c .before .fields-in-limit .ensures))
+    (c .names-in-range .ensures)
+    ∙ sym (all-map _ _ (range 0 _))
+
+pub schemas-in-range-spec : {M : Type 1} → statement M
+schemas-in-range-spec = tie.close (tie.spec (λ c κs. search needs) (λ c κs. search needs) returns)

@@ -1,0 +1,114 @@
+ghost use mathlib.Core.Path.{_≡_};
+ghost use Prim.Native.Nat.{_+_, _*_, _≤_, _<_};
+ghost use lib.ListN.{length};
+ghost use Rattle.lists.specs.Lists.{all};
+ghost use Rattle.layout.specs.Words.{Words, load, snapshotsIn};
+ghost use Rattle.ducklake.specs.Soundness.{lifeSound, livesSound};
+ghost use Rattle.lookup.specs.Order.{SnapshotsById};
+ghost use Rattle.lookup.specs.Versions.{withLife};
+ghost use Rattle.soundness_lives.specs.Lent.{livesIn, LivesLent};
+use layout::number::ABSENT;
+use layout::outcome::Counts;
+use layout::record::ColumnRecord;
+use layout::record::DataFileRecord;
+use layout::record::DeleteFileRecord;
+use layout::record::SchemaRecord;
+use layout::record::TableRecord;
+use lookup::find::latest_snapshot;
+use lookup::life::Life;
+use lookup::life::life_at;
+use lookup::live::is_live_at_some;
+
+// "each begin and each end that isn't ABSENT is at most the latest snapshot id; begin < end; every record is live at some retained snapshot"
+fn life_sound(snapshots: &[u64], n: usize, l: Life) -> bool
+    requires { ⌜ SnapshotsById (now snapshots) n × (0 < n) ⌝ }
+    ensures { λ r. ⌜ r ≡ lifeSound (snapshotsIn (now (snapshots .entry)) n) (withLife l) ⌝ }
+{
+    let latest = latest_snapshot(snapshots, n);
+    let some = is_live_at_some(snapshots, n, l);
+    (l.begin.0 <= latest.id.0)
+        & ((l.end.0 == ABSENT) | (l.end.0 <= latest.id.0))
+        & (l.begin.0 < l.end.0)
+        & some
+}
+
+// The same of each of the first k records of a table: records of `size` words with a life from the word `at` on.
+fn all_lives_sound(snapshots: &[u64], n: usize, w: &[u64], size: usize, at: usize, k: usize) -> bool
+    requires { ⌜ SnapshotsById (now snapshots) n × (0 < n) × (size * k ≤ length (now w)) × (at + 1 < size) ⌝ }
+    ensures { λ r. ⌜ r ≡ all (lifeSound (snapshotsIn (now (snapshots .entry)) n)) (livesIn size at (now (w .entry)) k) ⌝ }
+{
+    let mut i: usize = 0;
+    while i < k {
+        let l = life_at(w, size, at, i);
+        let ok = life_sound(snapshots, n, l);
+        if !ok {
+            return false;
+        }
+        i += 1;
+    }
+    true
+}
+
+// The same of every record that has a life.
+pub fn lives_sound(
+    snapshots: &[u64],
+    schemas: &[u64],
+    tables: &[u64],
+    columns: &[u64],
+    data_files: &[u64],
+    delete_files: &[u64],
+    counts: Counts,
+) -> bool
+    requires { ⌜ LivesLent (now snapshots) (now schemas) (now tables) (now columns) (now «data_files») (now «delete_files») counts ⌝ }
+    ensures { λ r. ⌜ ((w : Words)
+        → w .snapshots ≡ now (snapshots .entry)
+        → w .schemas ≡ now (schemas .entry)
+        → w .tables ≡ now (tables .entry)
+        → w .columns ≡ now (columns .entry)
+        → w .dataFiles ≡ now («data_files» .entry)
+        → w .deleteFiles ≡ now («delete_files» .entry)
+        → r ≡ livesSound (load w counts)) ⌝ }
+{
+    let n = counts.snapshots;
+    let a = all_lives_sound(
+        snapshots,
+        n,
+        schemas,
+        SchemaRecord::SIZE,
+        SchemaRecord::BEGIN,
+        counts.schemas,
+    );
+    let b = all_lives_sound(
+        snapshots,
+        n,
+        tables,
+        TableRecord::SIZE,
+        TableRecord::BEGIN,
+        counts.tables,
+    );
+    let c = all_lives_sound(
+        snapshots,
+        n,
+        columns,
+        ColumnRecord::SIZE,
+        ColumnRecord::BEGIN,
+        counts.columns,
+    );
+    let d = all_lives_sound(
+        snapshots,
+        n,
+        data_files,
+        DataFileRecord::SIZE,
+        DataFileRecord::BEGIN,
+        counts.data_files,
+    );
+    let e = all_lives_sound(
+        snapshots,
+        n,
+        delete_files,
+        DeleteFileRecord::SIZE,
+        DeleteFileRecord::BEGIN,
+        counts.delete_files,
+    );
+    a & b & c & d & e
+}

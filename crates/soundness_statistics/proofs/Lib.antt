@@ -1,0 +1,2 @@
+pub mod ColumnCounts
+pub mod FileStatistics

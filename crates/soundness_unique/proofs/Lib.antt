@@ -1,0 +1,4 @@
+pub mod Apart
+pub mod FileLists
+pub mod NameHashes
+pub mod UuidHashes
