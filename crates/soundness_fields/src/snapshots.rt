@@ -9,6 +9,12 @@ ghost use Rattle.layout.specs.Words.{snapshotAt, snapshotsIn};
 ghost use Rattle.ducklake.specs.Kinds.{isKind};
 ghost use Rattle.ducklake.specs.Soundness.{follows, snapshotsRise};
 use layout::number::CatalogId;
+use layout::record::CREATED_SCHEMA;
+use layout::record::CREATED_TABLE;
+use layout::record::DELETED_FROM_TABLE;
+use layout::record::DROPPED_SCHEMA;
+use layout::record::DROPPED_TABLE;
+use layout::record::INSERTED_INTO_TABLE;
 use lookup::find::latest_snapshot;
 use records::snapshot::snapshot_at;
 
@@ -17,12 +23,12 @@ fn is_kind(kind: u64) -> bool
     ensures { λ r. ⌜ r ≡ isKind kind ⌝ }
 {
     match kind {
-        1 => true,
-        2 => true,
-        3 => true,
-        4 => true,
-        6 => true,
-        7 => true,
+        CREATED_SCHEMA => true,
+        CREATED_TABLE => true,
+        INSERTED_INTO_TABLE => true,
+        DELETED_FROM_TABLE => true,
+        DROPPED_SCHEMA => true,
+        DROPPED_TABLE => true,
         _ => false,
     }
 }

@@ -1,5 +1,5 @@
 -- Document 01's diary session: the marked cases, by computation, on tables lent with room to spare and filled with other words before Fresh.
-use Prim.Native.Nat.{ℕ}
+use Prim.Native.Nat.{ℕ, _+_, _*_}
 use mathlib.Core.Path.{_≡_, refl}
 use mathlib.Core.List.{List, [], _∷_, _++_}
 use mathlib.Core.Bool.{true}
@@ -7,8 +7,10 @@ use lib.IntN.{pos}
 use lib.ListN.{replicate}
 use Rattle.lists.specs.Lists.{all}
 use Rattle.layout.specs.declared.outcome.Counts.{Counts}
+use Rattle.layout.specs.Fields.{snapshotSize, schemaSize, tableSize, columnSize, dataFileSize, deleteFileSize, statisticsSize, scheduledSize}
 use Rattle.layout.specs.Records.{uuidOf}
 use Rattle.layout.specs.Catalog.{absent}
+use Rattle.layout.specs.Names.{nameSize}
 use Rattle.layout.specs.Words.{Words}
 use Rattle.ducklake.specs.Commits.{createTable, insert, delete, dropTable}
 use Rattle.ducklake.specs.Readings.{files, filteredFiles, rows}
@@ -18,18 +20,18 @@ use Rattle.ducklake.proofs.cases.Sessions.{Case, reads, calls, schedule
 -- runs of several lengths, ragged ones among them, that hold what they hold
 lent : Words
 lent = record {
-  snapshots = replicate 80 absent;
-  schemas = replicate 20 7;
-  schemaNames = replicate 200 255;
-  tables = replicate 23 0;
-  tableNames = replicate 96 65;
-  columns = replicate 40 1;
-  columnNames = replicate 256 0;
-  dataFiles = replicate 32 absent;
-  deleteFiles = replicate 39 3;
+  snapshots = replicate (snapshotSize * 11 + 3) absent;
+  schemas = replicate (schemaSize * 6 + 2) 7;
+  schemaNames = replicate (nameSize * 6 + 8) 255;
+  tables = replicate (tableSize * 4 + 3) 0;
+  tableNames = replicate (nameSize * 3) 65;
+  columns = replicate (columnSize * 5 + 5) 1;
+  columnNames = replicate (nameSize * 8) 0;
+  dataFiles = replicate (dataFileSize * 4) absent;
+  deleteFiles = replicate (deleteFileSize * 4 + 7) 3;
   positions = replicate 9 5;
-  statistics = replicate 64 2;
-  scheduled = replicate 18 absent;
+  statistics = replicate (statisticsSize * 9 + 1) 2;
+  scheduled = replicate (scheduledSize * 4 + 2) absent;
 }
 
 -- Fresh ignores these

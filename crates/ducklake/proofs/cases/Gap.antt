@@ -1,13 +1,14 @@
 -- Soundness alone is not kept: sound tables on which an accepted delete leaves unsound ones. The data file 0 is open and its delete file 1 has ended,
 -- so that the delete ends nothing and its new delete file lacks position 0. No catalogue grown from a fresh one gets there (`Chain`).
-use Prim.Native.Nat.{ℕ}
+use Prim.Native.Nat.{ℕ, _*_}
 use mathlib.Core.Path.{_≡_, refl}
 use mathlib.Core.List.{[], _∷_}
 use mathlib.Core.Bool.{true, false}
 use lib.ListN.{replicate}
+use Rattle.layout.specs.Fields.{snapshotSize, schemaSize, tableSize, columnSize, dataFileSize, deleteFileSize, statisticsSize}
 use Rattle.layout.specs.Records.{uuidOf}
 use Rattle.layout.specs.Catalog.{absent, Snapshot, Catalog}
-use Rattle.layout.specs.Names.{padded}
+use Rattle.layout.specs.Names.{nameSize, padded}
 use Rattle.layout.specs.Words.{Words, store, countsOf}
 use Rattle.ducklake.specs.Soundness.{sound}
 use Rattle.ducklake.specs.Commits.{delete}
@@ -31,17 +32,17 @@ gap = record {
 
 lent : Words
 lent = record {
-  snapshots = replicate 28 0;
-  schemas = replicate 3 0;
-  schemaNames = replicate 32 0;
-  tables = replicate 5 0;
-  tableNames = replicate 32 0;
-  columns = replicate 7 0;
-  columnNames = replicate 32 0;
-  dataFiles = replicate 8 0;
-  deleteFiles = replicate 16 0;
+  snapshots = replicate (snapshotSize * 4) 0;
+  schemas = replicate schemaSize 0;
+  schemaNames = replicate nameSize 0;
+  tables = replicate tableSize 0;
+  tableNames = replicate nameSize 0;
+  columns = replicate columnSize 0;
+  columnNames = replicate nameSize 0;
+  dataFiles = replicate dataFileSize 0;
+  deleteFiles = replicate (deleteFileSize * 2) 0;
   positions = replicate 4 0;
-  statistics = replicate 7 0;
+  statistics = replicate statisticsSize 0;
   scheduled = [];
 }
 

@@ -1,12 +1,14 @@
 -- The diary session through the states of demand 3, by computation: what the calls alone tell is what document 01 says of them.
-use Prim.Native.Nat.{ℕ}
+use Prim.Native.Nat.{ℕ, _*_}
 use mathlib.Core.Path.{_≡_, refl}
 use mathlib.Core.List.{List, [], _∷_, map}
 use mathlib.Core.Bool.{Bool, true, not, _&&_}
 use lib.Dec.{eqb}
 use lib.ListN.{replicate}
 use Rattle.lists.specs.Lists.{agree}
+use Rattle.layout.specs.Fields.{snapshotSize, schemaSize, tableSize, columnSize, dataFileSize, deleteFileSize, statisticsSize, scheduledSize}
 use Rattle.layout.specs.Records.{uuidOf}
+use Rattle.layout.specs.Names.{nameSize}
 use Rattle.layout.specs.Words.{Words}
 use Rattle.ducklake.specs.Calls.{Call, commitAt, expireSnapshots, cleanUp, noCounts}
 use Rattle.ducklake.specs.Commits.{createTable, insert, dropTable}
@@ -20,18 +22,18 @@ steps = map (λ k. record { call = k; area = area })
 
 lent : Words
 lent = record {
-  snapshots = replicate 49 0;
-  schemas = replicate 3 0;
-  schemaNames = replicate 32 0;
-  tables = replicate 5 0;
-  tableNames = replicate 32 0;
-  columns = replicate 14 0;
-  columnNames = replicate 64 0;
-  dataFiles = replicate 16 0;
-  deleteFiles = replicate 16 0;
+  snapshots = replicate (snapshotSize * 7) 0;
+  schemas = replicate schemaSize 0;
+  schemaNames = replicate nameSize 0;
+  tables = replicate tableSize 0;
+  tableNames = replicate nameSize 0;
+  columns = replicate (columnSize * 2) 0;
+  columnNames = replicate (nameSize * 2) 0;
+  dataFiles = replicate (dataFileSize * 2) 0;
+  deleteFiles = replicate (deleteFileSize * 2) 0;
   positions = replicate 3 0;
-  statistics = replicate 28 0;
-  scheduled = replicate 12 0;
+  statistics = replicate (statisticsSize * 4) 0;
+  scheduled = replicate (scheduledSize * 3) 0;
 }
 
 start : State

@@ -2,12 +2,14 @@
 -- the compiled calls can read, line by line, the numbers of each: so no remark in a list has any.
 --
 -- Fourteen runs are lent, and named by number: 0 snapshots, 1 schemas, 2 tables, 3 columns, 4 data files, 5 delete files, 6 positions, 7 statistics,
--- 8 scheduled; 9 the used counts, in that order; 10 the names of schemas, 11 of tables, 12 of columns; 13 the answer area. A line begins with what it is:
+-- 8 scheduled; 9 the used counts, in that order; 10 the names of schemas, 11 of tables, 12 of columns; 13 the answer area. What lies in a run is named by
+-- its record and its word in that, so that a line is about the same field whatever a record's size is; a position, a used count and a word of the
+-- area are a record each, a name is one of 32 bytes. A line begins with what it is:
 --
---   0 RUN N WORD               the run has N words, each of them WORD
---   1 RUN PLACE WORD ..        before the next call, and for it alone: these words lie at PLACE and on
---   2 RUN N                    the same: only the first N words of the run are lent
---   3 RUN PLACE WORD ..        the next call leaves these words at PLACE and on
+--   0 RUN RECORDS WORDS WORD   the run has so many records and so many words more, each word of them WORD
+--   1 RUN RECORD AT WORD ..    before the next call, and for it alone: these words lie at the word AT of RECORD and on
+--   2 RUN RECORDS WORDS        the same: only so many records and so many words more of the run are lent
+--   3 RUN RECORD AT WORD ..    the next call leaves these words at the word AT of RECORD and on
 --   4 RUN RECORD BYTE ..       the next call leaves this name at the place of RECORD, filled with zero bytes
 --   5 AREA NUMBER PLACES LENGTH CALL ARGUMENT ..
 --                              the call, with the first AREA words of the answer area, gives this number, place, length, and leaves every word of every
@@ -37,6 +39,8 @@ use lib.IntN.{ℤ, pos, negsuc}
 use lib.ListN.{length, getD, take, drop, replicate}
 use Rattle.lists.specs.Lists.{range, all, agree}
 use Rattle.layout.specs.declared.outcome.Counts.{Counts}
+use Rattle.layout.specs.Fields.{snapshotSize, schemaSize, tableSize, columnSize, dataFileSize, deleteFileSize, statisticsSize, scheduledSize}
+use Rattle.layout.specs.Names.{nameSize}
 use Rattle.layout.specs.Records.{uuidOf}
 use Rattle.layout.specs.Words.{Words}
 use Rattle.ducklake.specs.Commits.{Commit, createSchema, createTable, insert, delete, dropTable, dropSchema}
@@ -62,6 +66,12 @@ onRun (suc i) f (r ∷ rs) = r ∷ onRun i f rs
 -- words written over a run, from a place on
 write : ℕ → List ℕ → List ℕ → List ℕ
 write k new old = take k old ++ (new ++ drop (k + length new) old)
+
+-- the word of a run that is a word of a record of it
+wordOf : ℕ → ℕ → ℕ → ℕ
+wordOf i r word =
+    getD (snapshotSize ∷ schemaSize ∷ tableSize ∷ columnSize ∷ dataFileSize ∷ deleteFileSize ∷ 1 ∷ statisticsSize ∷ scheduledSize ∷ 1
+    ∷ nameSize ∷ nameSize ∷ nameSize ∷ 1 ∷ []) i 0 * r + word
 
 -- The runs as what the calls take, and what a call leaves as runs
 
@@ -109,7 +119,7 @@ arg i xs = getD xs i 0
 
 -- a name in its place
 filled : List ℕ → List ℕ
-filled name = name ++ replicate (32 - length name) 0
+filled name = name ++ replicate (nameSize - length name) 0
 
 -- so many names, each after its length
 namePlaces : ℕ → List ℕ → List ℕ
@@ -150,8 +160,8 @@ gives number words w c area =
     record { number = number; place = λ i. eqb i 0; length = length words; counts = c; words = w; area = words ++ drop (length words) area }
 
 partOf : FilePlace → List ℕ
-partOf (inDataFiles i) = 4 ∷ (8 * i) ∷ []
-partOf (inDeleteFiles i) = 5 ∷ (8 * i) ∷ []
+partOf (inDataFiles i) = 4 ∷ (dataFileSize * i) ∷ []
+partOf (inDeleteFiles i) = 5 ∷ (deleteFileSize * i) ∷ []
 partOf nowhere = []
 
 resultOf : ℕ → List ℕ → Words → Counts → List ℕ → Result
@@ -217,16 +227,16 @@ judge S new xs =
 next : State → List ℕ → State
 next S [] = S
 next S (tag ∷ xs) =
-    cond (eqb tag 0) (lend S (arg 0 xs) (λ r. replicate (arg 1 xs) (arg 2 xs)))
-    (cond (eqb tag 1) (set S (arg 0 xs) (write (arg 1 xs) (drop 2 xs)))
-    (cond (eqb tag 2) (set S (arg 0 xs) (take (arg 1 xs)))
-    (cond (eqb tag 3) (leave S (arg 0 xs) (write (arg 1 xs) (drop 2 xs)))
-    (cond (eqb tag 4) (leave S (arg 0 xs) (write (32 * arg 1 xs) (filled (drop 2 xs))))
+    cond (eqb tag 0) (lend S (arg 0 xs) (λ r. replicate (wordOf (arg 0 xs) (arg 1 xs) (arg 2 xs)) (arg 3 xs)))
+    (cond (eqb tag 1) (set S (arg 0 xs) (write (wordOf (arg 0 xs) (arg 1 xs) (arg 2 xs)) (drop 3 xs)))
+    (cond (eqb tag 2) (set S (arg 0 xs) (take (wordOf (arg 0 xs) (arg 1 xs) (arg 2 xs))))
+    (cond (eqb tag 3) (leave S (arg 0 xs) (write (wordOf (arg 0 xs) (arg 1 xs) (arg 2 xs)) (drop 3 xs)))
+    (cond (eqb tag 4) (leave S (arg 0 xs) (write (wordOf (arg 0 xs) (arg 1 xs) 0) (filled (drop 2 xs))))
     (cond (eqb tag 5) (judge S (S .kept) xs)
     (judge S (S .after) xs))))))
 
 unfoldable pub after : State → List (List ℕ) → State
-unfolding passes lookup performLookup path uuidText run onRun write wordsOf countsIn runsOf arg filled namePlaces scalarOf tableOf commitOf queryOf gives partOf resultOf same placesAre holds at start lend set leave judge next
+unfolding passes lookup performLookup path uuidText run onRun write wordOf wordsOf countsIn runsOf arg filled namePlaces scalarOf tableOf commitOf queryOf gives partOf resultOf same placesAre holds at start lend set leave judge next
 after S [] = S
 after S (x ∷ xs) = after (next S x) xs
 
