@@ -1,1 +1,2 @@
+pub mod CleanupLaws
 pub mod FreshLaws

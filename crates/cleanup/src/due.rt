@@ -1,5 +1,6 @@
 ghost use mathlib.Core.Path.{_≡_};
 ghost use Prim.Native.Nat.{_+_, _*_, _≤_};
+ghost use lib.Dec.{ltb};
 ghost use lib.ListN.{length};
 ghost use Rattle.lists.specs.Runs.{overwrite};
 ghost use Rattle.lists.specs.Pieces.{rowPieces, Compacted, Flags};
@@ -15,6 +16,13 @@ use layout::record::ScheduledRecord;
 use records::scheduled::scheduled_at;
 use records::scheduled::scheduled_start;
 
+// "schedule_start < t"
+fn is_due(start: u64, t: u64) -> bool
+    ensures { λ r. ⌜ r ≡ ltb start t ⌝ }
+{
+    start < t
+}
+
 // How many of the first n records are due.
 pub fn count_due(scheduled: &[u64], n: usize, t: u64) -> usize
     requires { ⌜ Lent (now scheduled) n ⌝ }
@@ -23,9 +31,10 @@ pub fn count_due(scheduled: &[u64], n: usize, t: u64) -> usize
     let mut k: usize = 0;
     let mut i: usize = 0;
     while i < n {
-        let r = scheduled_at(scheduled, i);
+        let start = scheduled_start(scheduled, i);
+        let due = is_due(start, t);
         i += 1;
-        if r.schedule_start < t {
+        if due {
             k += 1;
         }
     }
@@ -51,8 +60,9 @@ pub fn hand_out(scheduled: &[u64], n: usize, t: u64, area: &mut [u64]) -> usize
     let mut i: usize = 0;
     while i < n {
         let r = scheduled_at(scheduled, i);
+        let due = is_due(r.schedule_start, t);
         i += 1;
-        if r.schedule_start < t {
+        if due {
             write_handed(area, k, r);
             k += HANDED_SIZE;
         }
@@ -68,7 +78,7 @@ fn flag_later(scheduled: &[u64], n: usize, t: u64, flags: &mut [u8])
     let mut i: usize = 0;
     while i < n {
         let start = scheduled_start(scheduled, i);
-        let due = start < t;
+        let due = is_due(start, t);
         set_flag(flags, i, !due);
         i += 1;
     }

@@ -1,3 +1,4 @@
 pub mod Judges
 pub mod Lives
 pub mod Relied
+pub mod Uuids

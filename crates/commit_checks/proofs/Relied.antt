@@ -9,7 +9,7 @@ use Rattle.layout.specs.Words.{Words, load}
 use Rattle.layout.proofs.Room.{Within}
 use Rattle.call_laws.proofs.Stores.{limits}
 use Rattle.call_laws.proofs.Ready.{Ready}
-use Rattle.commit_checks.specs.Relied.{Few, WithNames, nextRowIdsFit}
+use Rattle.commit_checks.specs.Relied.{Few, WithNames, FilesLent, nextRowIdsFit}
 
 few-within : (c : Counts) → Within c limits → Few c
 few-within c h = record {
@@ -37,3 +37,6 @@ module _ (w : Words) (c : Counts) (R : Ready w c) where
   pub row-ids-fit : nextRowIdsFit (load w c) ≡ true
   unfolding nextRowIdsFit load
   row-ids-fit = R .nextRowIds
+
+  pub files-lent : FilesLent (w .dataFiles) (w .deleteFiles) (w .scheduled) c
+  files-lent = record { dataFiles = R .held .dataFiles; deleteFiles = R .held .deleteFiles; scheduled = R .held .scheduled }

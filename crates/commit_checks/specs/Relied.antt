@@ -6,7 +6,7 @@ use mathlib.Core.List.{List}
 use lib.ListN.{length}
 use Rattle.lists.specs.Lists.{all}
 use Rattle.layout.specs.declared.outcome.Counts.{Counts}
-use Rattle.layout.specs.Fields.{tableSize}
+use Rattle.layout.specs.Fields.{tableSize, dataFileSize, deleteFileSize, scheduledSize}
 use Rattle.layout.specs.Catalog.{numberLimit, Snapshot, Catalog}
 use Rattle.layout.specs.Names.{nameSize}
 use Rattle.layout.specs.Words.{positionLimit}
@@ -46,3 +46,9 @@ pub record DropsSchema (ns ss ts : List ℕ) (c : Counts) : Type 0 where
   pub latest : HasLatest ns (c .snapshots)
   pub schemas : SchemasById ss (c .schemas)
   pub tables : tableSize * c .tables ≤ length ts
+
+-- the tables of files are lent as far as they are used
+pub record FilesLent (fs ds xs : List ℕ) (c : Counts) : Type 0 where
+  pub dataFiles : dataFileSize * c .«data_files» ≤ length fs
+  pub deleteFiles : deleteFileSize * c .«delete_files» ≤ length ds
+  pub scheduled : scheduledSize * c .scheduled ≤ length xs

@@ -1,2 +1,4 @@
 pub mod Ids
 pub mod Merged
+pub mod Relied
+pub mod Retained

@@ -3,7 +3,6 @@ use borrow.Author.Needs.{needs}
 use Prim.Native.Nat.{_≤_, _-_}
 use mathlib.Core.Path.{_≡_, sym, ap, _∙_}
 use native.Mathlib.Omega.{arith}
-use borrow.Author.Tests.{lt-ltb, le-ltb}
 use lib.Dec.{ltb}
 use lib.ListN.{length}
 use Rattle.lists.proofs.Loops.{counted, counted-start, counted-pass, counted-fail, counted-end}
@@ -23,10 +22,18 @@ loop-holds : tie.Need-loop-holds Inv-loop μ-loop
 loop-holds c = (omega arith, omega arith, counted-start _ _ _)
 
 loop-again : tie.Need-loop-again Inv-loop μ-loop
-loop-again c = (omega arith, omega arith, c .before .before .before .before .loop .inv .2 ∙ counted-pass _ _ _ _ _ (c .before .before .before .loop-test .taken) (sym (ap (λ r. ltb (r .«schedule_start») (c .before .before .before .before .before .before .args .t)) (c .before .before .scheduled-at .ensures)) ∙ lt-ltb _ _ (c .if1 .taken)))
+loop-again c =
+    let d = c .before in
+    let l = d .before .before .before in
+    let t = l .before .before .args .t in
+    (omega arith, omega arith, l .loop .inv .2 ∙ counted-pass _ _ _ _ _ (d .before .before .loop-test .taken) (sym (d .is-due .ensures ∙ ap (λ s. ltb s t) (d .before .scheduled-start .ensures)) ∙ c .if1 .taken))
 
 loop-again-2 : tie.Need-loop-again-2 Inv-loop μ-loop
-loop-again-2 c = (omega arith, omega arith, c .before .before .before .before .loop .inv .2 ∙ counted-fail _ _ _ _ _ (c .before .before .before .loop-test .taken) (sym (ap (λ r. ltb (r .«schedule_start») (c .before .before .before .before .before .before .args .t)) (c .before .before .scheduled-at .ensures)) ∙ le-ltb _ _ (c .if1 .left)))
+loop-again-2 c =
+    let d = c .before in
+    let l = d .before .before .before in
+    let t = l .before .before .args .t in
+    (omega arith, omega arith, l .loop .inv .2 ∙ counted-fail _ _ _ _ _ (d .before .before .loop-test .taken) (sym (d .is-due .ensures ∙ ap (λ s. ltb s t) (d .before .scheduled-start .ensures)) ∙ c .if1 .left))
 
 returns : tie.Need-returns Inv-loop μ-loop
 returns c = sym (c .before .loop .inv .2 ∙ counted-end _ _ _ _ _ (c .loop-test .left))
@@ -34,4 +41,4 @@ returns c = sym (c .before .loop .inv .2 ∙ counted-end _ _ _ _ _ (c .loop-test
 pub count-due-spec : {M : Type 1} → statement M
 count-due-spec =
     tie.close
-    (tie.spec Inv-loop μ-loop loop-holds (λ c κs. search needs) (λ c. search needs) (λ c. search needs) (λ c. search needs) loop-again (λ c. search needs) loop-again-2 returns)
+    (tie.spec Inv-loop μ-loop loop-holds (λ c κs. search needs) (λ c κs. search needs) (λ c. search needs) (λ c. search needs) (λ c. search needs) loop-again (λ c. search needs) loop-again-2 returns)

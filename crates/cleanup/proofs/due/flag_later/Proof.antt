@@ -1,7 +1,7 @@
 -- `flag_later` meets its contract: each turn sets the flag of its place.
 use borrow.Author.Needs.{needs}
 use Prim.Native.Nat.{_≤_, _-_}
-use mathlib.Core.Path.{_≡_, ap}
+use mathlib.Core.Path.{_≡_, ap, _∙_}
 use mathlib.Core.Bool.{not}
 use native.Mathlib.Omega.{arith}
 use lib.Dec.{ltb}
@@ -24,11 +24,11 @@ loop-holds c = (omega arith, omega arith, flags-start _ _)
 loop-again : tie.Need-loop-again Inv-loop μ-loop
 loop-again c =
     let s = c .before .before .before .before in
-    let l = s .before .before in
+    let l = s .before .before .before in
     let a = l .before .before .before in (
       omega arith,
       omega arith,
-      flags-next (staysAt (a .args .scheduled .now) (a .args .t)) _ _ _ (l .loop .inv .2) (omega arith) (ap (λ x. not (ltb x (a .args .t))) (s .scheduled-start .ensures)) (c .before .before .set-flag .ensures),
+      flags-next (staysAt (a .args .scheduled .now) (a .args .t)) _ _ _ (l .loop .inv .2) (omega arith) (ap not (s .is-due .ensures ∙ ap (λ x. ltb x (a .args .t)) (s .before .scheduled-start .ensures))) (c .before .before .set-flag .ensures),
     )
 
 returns : tie.Need-returns Inv-loop μ-loop
@@ -37,4 +37,4 @@ returns c = let f = c .before .loop .inv .2 in record { set = λ j h. f .set j (
 pub flag-later-spec : {M : Type 1} → statement M
 flag-later-spec =
     tie.close
-    (tie.spec Inv-loop μ-loop loop-holds (λ c κs. search needs) (λ c κs. search needs) (λ c. search needs) (λ c. search needs) loop-again (λ c. search needs) returns)
+    (tie.spec Inv-loop μ-loop loop-holds (λ c κs. search needs) (λ c κs. search needs) (λ c κs. search needs) (λ c. search needs) (λ c. search needs) loop-again (λ c. search needs) returns)

@@ -1,9 +1,8 @@
 -- `hand_out` meets its contract: each turn lays the words of the record at its place, if it is due, behind those laid before.
 use borrow.Author.Needs.{needs}
 use Prim.Native.Nat.{_≤_, _-_}
-use mathlib.Core.Path.{_≡_, refl, ap, _∙_}
+use mathlib.Core.Path.{_≡_, refl, sym, ap, _∙_}
 use native.Mathlib.Omega.{arith}
-use borrow.Author.Tests.{lt-ltb, le-ltb}
 use lib.ListN.{length}
 use Rattle.lists.proofs.Writes.{laid, laid-room, laid-pass, laid-fail, laid-done}
 use Rattle.layout.specs.Catalog.{scheduledOf}
@@ -24,36 +23,39 @@ loop-holds c = (omega arith, omega arith, refl)
 
 write-handed-requires : tie.Need-write-handed-requires Inv-loop μ-loop
 write-handed-requires c κs =
-    let l = c .before .before .before .before .before in
+    let d = c .before .before in
+    let l = d .before .before .before in
     let a = l .before .before .before in
-    omega (arith, laid-room _ (due (a .args .t)) _ handedWords _ _ _ _ _ (a .pre .1) (l .loop .inv .2) (ap scheduledOf (c .before .before .before .scheduled-at .ensures)) (c .before .before .before .before .loop-test .taken) (lt-ltb _ _ (c .before .if1 .taken)))
+    omega (arith, laid-room _ (due (a .args .t)) _ handedWords _ _ _ _ _ (a .pre .1) (l .loop .inv .2) (ap scheduledOf (d .before .scheduled-at .ensures)) (d .before .before .loop-test .taken) (sym (d .is-due .ensures) ∙ c .before .if1 .taken))
 
 add-k : tie.Need-add-k Inv-loop μ-loop
 add-k c =
     let f = c .before .before .before .before in
-    let l = f .before .before .before .before in
+    let d = f .before in
+    let l = d .before .before .before in
     let a = l .before .before .before in
-    omega (arith, laid-room _ (due (a .args .t)) _ handedWords _ _ _ _ _ (a .pre .1) (l .loop .inv .2) (ap scheduledOf (f .before .before .scheduled-at .ensures)) (f .before .before .before .loop-test .taken) (lt-ltb _ _ (f .if1 .taken)))
+    omega (arith, laid-room _ (due (a .args .t)) _ handedWords _ _ _ _ _ (a .pre .1) (l .loop .inv .2) (ap scheduledOf (d .before .scheduled-at .ensures)) (d .before .before .loop-test .taken) (sym (d .is-due .ensures) ∙ f .if1 .taken))
 
 loop-again : tie.Need-loop-again Inv-loop μ-loop
 loop-again c =
     let f = c .before .before .before .before in
-    let l = f .before .before .before .before in
+    let d = f .before in
+    let l = d .before .before .before in
     let a = l .before .before .before in (
       omega arith,
       omega arith,
-      laid-pass _ (due (a .args .t)) _ handedWords _ _ _ _ _ (omega (arith, a .pre .1)) (l .loop .inv .2) (ap scheduledOf (f .before .before .scheduled-at .ensures))
-          (f .before .before .before .loop-test .taken) (lt-ltb _ _ (f .if1 .taken)) refl (c .before .before .write-handed .ensures),
+      laid-pass _ (due (a .args .t)) _ handedWords _ _ _ _ _ (omega (arith, a .pre .1)) (l .loop .inv .2) (ap scheduledOf (d .before .scheduled-at .ensures))
+          (d .before .before .loop-test .taken) (sym (d .is-due .ensures) ∙ f .if1 .taken) refl (c .before .before .write-handed .ensures),
     )
 
 loop-again-2 : tie.Need-loop-again-2 Inv-loop μ-loop
 loop-again-2 c =
-    let l = c .before .before .before .before in
+    let d = c .before in
+    let l = d .before .before .before in
     let a = l .before .before .before in (
       omega arith,
       omega arith,
-      l .loop .inv .2 ∙ laid-fail _ (due (a .args .t)) _ handedWords _ _ _ (ap scheduledOf (c .before .before .scheduled-at .ensures)) (c .before .before .before .loop-test .taken)
-          (le-ltb _ _ (c .if1 .left)),
+      l .loop .inv .2 ∙ laid-fail _ (due (a .args .t)) _ handedWords _ _ _ (ap scheduledOf (d .before .scheduled-at .ensures)) (d .before .before .loop-test .taken) (sym (d .is-due .ensures) ∙ c .if1 .left),
     )
 
 returns : tie.Need-returns Inv-loop μ-loop
@@ -65,4 +67,4 @@ returns c =
 pub hand-out-spec : {M : Type 1} → statement M
 hand-out-spec =
     tie.close
-    (tie.spec Inv-loop μ-loop loop-holds (λ c κs. search needs) (λ c. search needs) write-handed-requires add-k (λ c. search needs) loop-again (λ c. search needs) loop-again-2 (λ c. search needs) returns)
+    (tie.spec Inv-loop μ-loop loop-holds (λ c κs. search needs) (λ c κs. search needs) (λ c. search needs) write-handed-requires add-k (λ c. search needs) loop-again (λ c. search needs) loop-again-2 (λ c. search needs) returns)

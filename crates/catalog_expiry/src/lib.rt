@@ -1,0 +1,2 @@
+// The public call that expires snapshots.
+pub mod expire;

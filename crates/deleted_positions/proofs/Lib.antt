@@ -1,0 +1,4 @@
+pub mod Fits
+pub mod Merging
+pub mod Offending
+pub mod Parts

@@ -1,0 +1,45 @@
+ghost use mathlib.Core.Path.{_≡_};
+ghost use mathlib.Core.Bool.{true};
+ghost use lib.Dec.{ltb};
+ghost use Rattle.lists.specs.Lists.{chained, has, place};
+ghost use Rattle.ducklake.specs.Arguments.{positionsFit};
+use lists::Found;
+use runs::words::words_ascend;
+
+// "positions empty, not ascending strictly, or past the file": whether those of a file of so many rows are not. They ascend, so the last is the highest.
+pub fn positions_fit(rows: u64, positions: &[u64]) -> bool
+    ensures { λ r. ⌜ r ≡ positionsFit rows (now (positions .entry)) ⌝ }
+{
+    let n = positions.len();
+    if n == 0 {
+        return false;
+    }
+    let ascend = words_ascend(positions);
+    let below = positions[n - 1] < rows;
+    ascend & below
+}
+
+// "17 a position already deleted": the place of the first of the positions that is one of the deleted ones. Both ascend: in one pass.
+pub fn first_deleted(deleted: &[u64], positions: &[u64]) -> Found
+    requires { ⌜ (chained ltb (now deleted) ≡ true) × (chained ltb (now positions) ≡ true) ⌝ }
+    ensures { λ r. ⌜ r ≡ place (λ p. has p (now (deleted .entry))) 0 (now (positions .entry)) ⌝ }
+{
+    let mut i: usize = 0;
+    let mut j: usize = 0;
+    while i < positions.len() {
+        if deleted.len() <= j {
+            return Found::Nothing;
+        }
+        let p = positions[i];
+        let d = deleted[j];
+        if p == d {
+            return Found::At(i);
+        }
+        if p < d {
+            i += 1;
+        } else {
+            j += 1;
+        }
+    }
+    Found::Nothing
+}

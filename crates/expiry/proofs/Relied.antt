@@ -1,0 +1,67 @@
+-- What sound tables give an expiry: snapshots and files found by id, records with their lives, what lies beside them.
+use Prim.Native.Nat.{ℕ}
+use mathlib.Core.Path.{_≡_}
+use mathlib.Core.Bool.{true}
+use mathlib.Core.List.{List}
+use native.Mathlib.Omega.{arith}
+use lib.Dec.{ltb}
+use Rattle.lists.specs.Lists.{all, nonEmpty, chained}
+use Rattle.lists.proofs.Tests.{both}
+use Rattle.layout.specs.declared.outcome.Counts.{Counts}
+use Rattle.layout.specs.Fields.{schemaSize, schemaBeginWord, tableSize, tableBeginWord, columnSize, columnBeginWord, dataFileSize, dataFileBeginWord, deleteFileSize, deleteFileBeginWord}
+use Rattle.layout.specs.Words.{Words, load, snapshotsIn}
+use Rattle.ducklake.specs.Liveness.{retained}
+use Rattle.ducklake.specs.Refusals.{accepted, notRetained, badExpiryList}
+use Rattle.ducklake.specs.Arguments.{expiryListFits}
+use Rattle.ducklake.specs.Calls.{expireSnapshots, judgeCall}
+use Rattle.ducklake.proofs.facts.Needs.{need-passed}
+use Rattle.call_laws.proofs.Ready.{Ready}
+use Rattle.lookup.specs.Order.{SnapshotsById, DataFilesById, DeleteFilesById}
+use Rattle.expiry.specs.Remaining.{Ids, Expirable, Versions}
+use Rattle.expiry.specs.Removed.{Files}
+use Rattle.expiry.specs.Stayed.{NamedVersions, Located, StatisticsOfFiles}
+
+-- a list that passes 5 and 18 ascends
+list-ascends : (w : Words) (c : Counts) (ids : List ℕ) (time : ℕ) → judgeCall (load w c) (expireSnapshots ids time) accepted ≡ accepted → chained ltb ids ≡ true
+unfolding judgeCall load expiryListFits
+list-ascends w c ids time e =
+    let a = need-passed notRetained (all (retained (snapshotsIn (w .snapshots) (c .snapshots))) ids) _ (omega arith) e in
+    both (nonEmpty ids) (chained ltb ids) (need-passed badExpiryList (expiryListFits ids) _ (omega arith) (a .1) .0) .1
+
+module _ {w : Words} {c : Counts} (R : Ready w c) where
+  pub snapshots-by-id : SnapshotsById (w .snapshots) (c .snapshots)
+  snapshots-by-id = record { lent = R .held .snapshots; inside = omega arith; ascending = R .snapshotIds }
+
+  pub expirable : (ids : List ℕ) (time : ℕ) → judgeCall (load w c) (expireSnapshots ids time) accepted ≡ accepted → Expirable (w .snapshots) (c .snapshots) ids
+  expirable ids time e = record { byId = snapshots-by-id; few = omega (arith, R .few .snapshots); ascending = list-ascends w c ids time e }
+
+  data-files-by-id : DataFilesById (w .dataFiles) (c .«data_files»)
+  data-files-by-id = record { lent = R .held .dataFiles; inside = omega arith; ascending = R .dataFileIds }
+
+  delete-files-by-id : DeleteFilesById (w .deleteFiles) (c .«delete_files»)
+  delete-files-by-id = record { lent = R .held .deleteFiles; inside = omega arith; ascending = R .deleteFileIds }
+
+  module _ {left : List ℕ} {m : ℕ} (L : Ids left m) where
+    pub schema-versions : NamedVersions schemaSize schemaBeginWord (w .schemas) (w .schemaNames) (c .schemas) left m
+    schema-versions = record { versions = record { held = R .held .schemas; inside = omega arith; few = omega (arith, R .few .schemas); byId = L }; namesHeld = R .held .schemaNames }
+
+    pub table-versions : NamedVersions tableSize tableBeginWord (w .tables) (w .tableNames) (c .tables) left m
+    table-versions = record { versions = record { held = R .held .tables; inside = omega arith; few = omega (arith, R .few .tables); byId = L }; namesHeld = R .held .tableNames }
+
+    pub column-versions : NamedVersions columnSize columnBeginWord (w .columns) (w .columnNames) (c .columns) left m
+    column-versions = record { versions = record { held = R .held .columns; inside = omega arith; few = omega (arith, R .few .columns); byId = L }; namesHeld = R .held .columnNames }
+
+    pub data-file-versions : Versions dataFileSize dataFileBeginWord (w .dataFiles) (c .«data_files») left m
+    data-file-versions = record { held = R .held .dataFiles; inside = omega arith; few = R .held .dataFilesMost; byId = L }
+
+    pub delete-file-versions : Versions deleteFileSize deleteFileBeginWord (w .deleteFiles) (c .«delete_files») left m
+    delete-file-versions = record { held = R .held .deleteFiles; inside = omega arith; few = R .held .deleteFilesMost; byId = L }
+
+    pub files : Files (w .dataFiles) (c .«data_files») (w .deleteFiles) (c .«delete_files») left m
+    files = record { dataFilesById = data-files-by-id; deleteFilesById = delete-files-by-id; dataFileVersions = data-file-versions; deleteFileVersions = delete-file-versions }
+
+    pub located : Located (w .deleteFiles) (w .positions) (c .«delete_files») left m
+    located = record { versions = delete-file-versions; positionsHeld = omega (arith, R .added, R .held .positions) }
+
+    pub statistics-of-files : StatisticsOfFiles (w .statistics) (c .statistics) (w .dataFiles) (c .«data_files») left m
+    statistics-of-files = record { held = R .held .statistics; few = omega (arith, R .few .statistics); files = record { byId = data-files-by-id; versions = data-file-versions } }

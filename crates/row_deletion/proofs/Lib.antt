@@ -1,0 +1,4 @@
+pub mod Effects
+pub mod Found
+pub mod Judges
+pub mod Relied

@@ -1,0 +1,17 @@
+-- `numbers_fit` meets its contract: the next snapshot is judged, and the table's next row number with so many rows.
+use borrow.Author.Needs.{needs}
+use mathlib.Core.Path.{ap, ap₂, _∙_}
+use mathlib.Core.Bool.{_&&_}
+use Prim.Native.Nat.{_+_}
+use Rattle.ducklake.specs.Soundness.{inLimit, snapshotInRange}
+use Rattle.row_insertion.proofs.judge.numbers_fit.Statement.{statement}
+use Rattle.row_insertion.proofs.judge.numbers_fit.Tie as tie
+
+returns : tie.Need-returns
+returns c names =
+    let f = c .before .before in
+    ap₂ _&&_ (f .snapshot-fits .ensures ∙ ap snapshotInRange (f .before .next-snapshot .ensures))
+    (c .rows-fit .ensures ∙ ap (λ n. inLimit (n + c .before .before .before .before .before .args .record-count)) (c .before .next-row-id .ensures names))
+
+pub numbers-fit-spec : {M : Type 1} → statement M
+numbers-fit-spec = tie.close (tie.spec (λ c κs. search needs) (λ c κs. search needs) (λ c κs. search needs) (λ c κs. search needs) returns)
