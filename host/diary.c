@@ -1,0 +1,86 @@
+/* Plays document 01's diary session up to time 150 through gukoremo.h, and prints the files at snapshot 5: a header line, then the path of each data file, a
+ * comma, and the path of its delete file or nothing. */
+#include "gukoremo.h"
+
+#include <inttypes.h>
+#include <stdio.h>
+#include <stdlib.h>
+
+/* What the session needs, and no more: six snapshots, a schema, a table of two columns, two data files, two delete files. */
+static uint64_t snapshots[6 * GUKOREMO_SNAPSHOT_SIZE], schemas[GUKOREMO_SCHEMA_SIZE], tables[GUKOREMO_TABLE_SIZE], columns[2 * GUKOREMO_COLUMN_SIZE],
+    data_files[2 * GUKOREMO_DATA_FILE_SIZE], delete_files[2 * GUKOREMO_DELETE_FILE_SIZE], positions[3], statistics[4 * GUKOREMO_STATISTICS_SIZE];
+static uint8_t schema_names[GUKOREMO_NAME_SIZE], table_names[GUKOREMO_NAME_SIZE], column_names[2 * GUKOREMO_NAME_SIZE];
+
+#define LENGTH(run) (sizeof(run) / sizeof((run)[0]))
+#define RUN(run) {run, LENGTH(run)}
+static const gukoremo_tables lent = {RUN(snapshots), RUN(schemas), RUN(schema_names), RUN(tables), RUN(table_names), RUN(columns), RUN(column_names),
+    RUN(data_files), RUN(delete_files), RUN(positions), RUN(statistics), {NULL, 0}};
+
+static gukoremo_counts counts;
+
+/* A call that has to be accepted; the counts that it hands back go to the next one. */
+static gukoremo_outcome accept(const char *what, gukoremo_outcome given)
+{
+    if (given.number != GUKOREMO_ACCEPTED) {
+        fprintf(stderr, "%s: refused with %" PRIu64 ", %s\n", what, given.number, gukoremo_sentence(given.number));
+        exit(1);
+    }
+    counts = given.counts;
+    return given;
+}
+
+static gukoremo_uuid uuid(uint64_t low)
+{
+    gukoremo_uuid u = {0, low};
+    return u;
+}
+
+/* "A path is `ducklake-{uuid}.parquet`, UUID in lower-case hexadecimal (8-4-4-4-12)". The UUID stands in the same words of data files and delete files. */
+static void print_path(gukoremo_file_id id)
+{
+    uint64_t file[GUKOREMO_DATA_FILE_SIZE], high, low;
+    accept("file lookup", gukoremo_copy_file(&lent, counts, id, file, LENGTH(file)));
+    high = file[GUKOREMO_DATA_FILE_UUID_HIGH];
+    low = file[GUKOREMO_DATA_FILE_UUID_LOW];
+    printf("ducklake-%08" PRIx64 "-%04" PRIx64 "-%04" PRIx64 "-%04" PRIx64 "-%012" PRIx64 ".parquet", high >> 32, high >> 16 & 0xffff, high & 0xffff,
+        low >> 48, low & UINT64_C(0xffffffffffff));
+}
+
+static void play(void)
+{
+    static const uint64_t types[] = {GUKOREMO_INT64, 0, GUKOREMO_INT64, 1};
+    static const char names[2][GUKOREMO_NAME_SIZE] = {"item", "price"};
+    static const uint64_t three[] = {1, 0, 1, 1, 1, 3, 2, 0, 1, 1, 9, 14}, two[] = {1, 0, 1, 1, 4, 5, 2, 1, 1, 1, 20, 20};
+    static const uint64_t first[] = {0}, second[] = {1};
+    const gukoremo_catalog_id main_schema = {0}, diary = {1};
+    const gukoremo_file_id file = {0};
+
+    accept("Fresh", gukoremo_fresh(&lent, counts, 100));
+    accept("create table", gukoremo_create_table(&lent, counts, 110, main_schema, "diary", 5, types, LENGTH(types), (const char *)names, sizeof names));
+    accept("insert", gukoremo_insert(&lent, counts, 120, diary, 3, uuid(1), three, LENGTH(three)));
+    accept("insert", gukoremo_insert(&lent, counts, 130, diary, 2, uuid(2), two, LENGTH(two)));
+    accept("delete", gukoremo_delete(&lent, counts, 140, file, uuid(3), second, LENGTH(second)));
+    accept("delete", gukoremo_delete(&lent, counts, 150, file, uuid(4), first, LENGTH(first)));
+}
+
+int main(void)
+{
+    const gukoremo_snapshot_id latest = {5};
+    const gukoremo_catalog_id diary = {1};
+    uint64_t listed[2 * GUKOREMO_LISTED_SIZE];
+    size_t i, length;
+
+    play();
+    length = accept("files", gukoremo_list_files(&lent, counts, latest, diary, listed, LENGTH(listed))).length;
+    puts("data_file,delete_file");
+    for (i = 0; i < length; i += GUKOREMO_LISTED_SIZE) {
+        const gukoremo_file_id data_file = {listed[i]}, delete_file = {listed[i + 1]};
+        print_path(data_file);
+        putchar(',');
+        if (delete_file.number != GUKOREMO_ABSENT) {
+            print_path(delete_file);
+        }
+        putchar('\n');
+    }
+    return fflush(stdout) == 0 ? 0 : 1;
+}

@@ -1,0 +1,233 @@
+//! A catalogue: tables with their counts, and the calls as methods.
+
+use crate::number::{CatalogId, FileId, RowId, SnapshotId, ABSENT, HANDED_SIZE};
+use crate::outcome::{Counts, Outcome, SHORT_ANSWER_AREA};
+use crate::raw;
+use crate::record::{DataFileRecord, DeleteFileRecord, SnapshotRecord, Uuid};
+use crate::refusal::Refusal;
+use crate::tables::{Lend, Tables, TablesView};
+use crate::values::{NewColumn, NewStatistics};
+
+/// A catalogue in tables that it owns ([`crate::OwnedTables`]) or that are lent to it ([`Tables`]).
+pub struct Catalog<T: Lend> {
+    lent: T,
+    counts: Counts,
+}
+
+/// A file of a file list, with its delete file at that snapshot.
+#[derive(Clone, Copy, Debug, PartialEq, Eq)]
+pub struct Listed {
+    pub data_file: FileId,
+    pub delete_file: Option<FileId>,
+}
+
+/// A file that a cleanup hands out: nothing shows it any more.
+#[derive(Clone, Copy, Debug, PartialEq, Eq)]
+pub struct Handed {
+    pub file: FileId,
+    pub uuid: Uuid,
+}
+
+/// The record of a file.
+#[derive(Clone, Copy, Debug, PartialEq, Eq)]
+pub enum File {
+    Data(DataFileRecord),
+    Delete(DeleteFileRecord),
+}
+
+impl File {
+    pub fn uuid(&self) -> Uuid {
+        match self {
+            File::Data(file) => file.uuid,
+            File::Delete(file) => file.uuid,
+        }
+    }
+}
+
+impl<T: Lend> Catalog<T> {
+    /// Fresh: an empty catalogue with schema 0, `main`, whatever the tables hold.
+    pub fn fresh(lent: T, time: u64) -> Result<Catalog<T>, Refusal> {
+        let mut catalog = Catalog { lent, counts: Counts::NONE };
+        catalog.change(|lent, counts| raw::fresh(lent, counts, time, &mut []))?;
+        Ok(catalog)
+    }
+
+    /// A catalogue that was made before, with the counts that its last call handed back. Nothing is tested here: each call tests the tables.
+    pub fn resume(lent: T, counts: Counts) -> Catalog<T> {
+        Catalog { lent, counts }
+    }
+
+    /// How many records of each table are used.
+    pub fn counts(&self) -> Counts {
+        self.counts
+    }
+
+    pub fn view(&self) -> TablesView<'_> {
+        self.lent.view()
+    }
+
+    /// The tables, and the counts to resume with.
+    pub fn into_parts(self) -> (T, Counts) {
+        (self.lent, self.counts)
+    }
+
+    // Commits: each gives the snapshot that it makes. Of a new schema or table the object is the id; a new file's is one below the next file id.
+
+    pub fn create_schema(&mut self, time: u64, name: impl AsRef<[u8]>) -> Result<SnapshotRecord, Refusal> {
+        self.commit(|lent, counts| raw::create_schema(lent, counts, time, name.as_ref(), &mut []))
+    }
+
+    /// "only if no table in it is live"
+    pub fn drop_schema(&mut self, time: u64, schema: CatalogId) -> Result<SnapshotRecord, Refusal> {
+        self.commit(|lent, counts| raw::drop_schema(lent, counts, time, schema, &mut []))
+    }
+
+    /// "columns get ids 1, 2, …"
+    pub fn create_table(
+        &mut self,
+        time: u64,
+        schema: CatalogId,
+        name: impl AsRef<[u8]>,
+        columns: &[NewColumn<'_>],
+    ) -> Result<SnapshotRecord, Refusal> {
+        let words: Vec<u64> = columns.iter().flat_map(NewColumn::words).collect();
+        let places: Vec<u8> = columns.iter().flat_map(NewColumn::place).collect();
+        self.commit(|lent, counts| raw::create_table(lent, counts, time, schema, name.as_ref(), &words, &places, &mut []))
+    }
+
+    pub fn drop_table(&mut self, time: u64, table: CatalogId) -> Result<SnapshotRecord, Refusal> {
+        self.commit(|lent, counts| raw::drop_table(lent, counts, time, table, &mut []))
+    }
+
+    /// A data file of so many rows, with statistics for each live column by ascending id.
+    pub fn insert(
+        &mut self,
+        time: u64,
+        table: CatalogId,
+        record_count: u64,
+        uuid: Uuid,
+        statistics: &[NewStatistics],
+    ) -> Result<SnapshotRecord, Refusal> {
+        let words: Vec<u64> = statistics.iter().flat_map(NewStatistics::words).collect();
+        self.commit(|lent, counts| raw::insert(lent, counts, time, table, record_count, uuid, &words, &mut []))
+    }
+
+    /// Rows of a live data file, by ascending position.
+    pub fn delete(&mut self, time: u64, data_file: FileId, uuid: Uuid, positions: &[u64]) -> Result<SnapshotRecord, Refusal> {
+        self.commit(|lent, counts| raw::delete(lent, counts, time, data_file, uuid, positions, &mut []))
+    }
+
+    // Maintenance
+
+    /// These snapshots go, and every record that no retained snapshot shows; the files among those are scheduled with the time.
+    pub fn expire(&mut self, snapshots: &[SnapshotId], time: u64) -> Result<(), Refusal> {
+        let ids: Vec<u64> = snapshots.iter().map(|id| id.0).collect();
+        self.change(|lent, counts| raw::expire(lent, counts, &ids, time, &mut []))?;
+        Ok(())
+    }
+
+    /// Hands out each file scheduled before t, once.
+    pub fn cleanup(&mut self, t: u64) -> Result<Vec<Handed>, Refusal> {
+        // no more can be due than are scheduled; a count that the tables have no room for is refused whatever the area
+        let scheduled = self.counts.scheduled.min(self.lent.view().scheduled.len());
+        let mut area = vec![0; scheduled * HANDED_SIZE];
+        let length = self.change(|lent, counts| raw::cleanup(lent, counts, t, &mut area))?.length;
+        let handed = |words: &[u64]| Handed { file: FileId(words[0]), uuid: Uuid { high: words[1], low: words[2] } };
+        Ok(area[..length].chunks_exact(HANDED_SIZE).map(handed).collect())
+    }
+
+    // Readings
+
+    /// By id.
+    pub fn list_schemas(&self, snapshot: SnapshotId) -> Result<Vec<CatalogId>, Refusal> {
+        let words = self.read(|lent, counts, area| raw::list_schemas(lent, counts, snapshot, area))?;
+        Ok(words.into_iter().map(CatalogId).collect())
+    }
+
+    /// By id.
+    pub fn list_tables(&self, snapshot: SnapshotId, schema: CatalogId) -> Result<Vec<CatalogId>, Refusal> {
+        let words = self.read(|lent, counts, area| raw::list_tables(lent, counts, snapshot, schema, area))?;
+        Ok(words.into_iter().map(CatalogId).collect())
+    }
+
+    /// The ids of the columns, by column_order.
+    pub fn list_columns(&self, snapshot: SnapshotId, table: CatalogId) -> Result<Vec<u64>, Refusal> {
+        self.read(|lent, counts, area| raw::list_columns(lent, counts, snapshot, table, area))
+    }
+
+    pub fn table_by_name(&self, snapshot: SnapshotId, schema: CatalogId, name: impl AsRef<[u8]>) -> Result<CatalogId, Refusal> {
+        let words = self.read(|lent, counts, area| raw::table_by_name(lent, counts, snapshot, schema, name.as_ref(), area))?;
+        Ok(CatalogId(words[0]))
+    }
+
+    /// By id.
+    pub fn list_files(&self, snapshot: SnapshotId, table: CatalogId) -> Result<Vec<Listed>, Refusal> {
+        let words = self.read(|lent, counts, area| raw::list_files(lent, counts, snapshot, table, area))?;
+        Ok(listed(&words))
+    }
+
+    /// The files that may hold a row with that value in the column, by their statistics.
+    pub fn list_filtered_files(&self, snapshot: SnapshotId, table: CatalogId, column: u64, scalar: i64) -> Result<Vec<Listed>, Refusal> {
+        let words = self.read(|lent, counts, area| raw::list_filtered_files(lent, counts, snapshot, table, column, scalar as u64, area))?;
+        Ok(listed(&words))
+    }
+
+    /// The rows of each file after those of the file before.
+    pub fn list_rows(&self, snapshot: SnapshotId, table: CatalogId) -> Result<Vec<RowId>, Refusal> {
+        let words = self.read(|lent, counts, area| raw::list_rows(lent, counts, snapshot, table, area))?;
+        Ok(words.into_iter().map(RowId).collect())
+    }
+
+    /// The highest retained snapshot at or before t.
+    pub fn snapshot_by_time(&self, t: u64) -> Result<SnapshotId, Refusal> {
+        let words = self.read(|lent, counts, area| raw::snapshot_by_time(lent, counts, t, area))?;
+        Ok(SnapshotId(words[0]))
+    }
+
+    /// The record of a file that is on record, live or ended.
+    pub fn copy_file(&self, id: FileId) -> Result<File, Refusal> {
+        let words = self.read(|lent, counts, area| raw::copy_file(lent, counts, id, area))?;
+        // the tables are sound, so the id is in one of the two, once
+        let data_files = self.lent.view().data_files.chunks_exact(DataFileRecord::SIZE).take(self.counts.data_files);
+        match data_files.into_iter().any(|file| file[DataFileRecord::ID] == id.0) {
+            true => Ok(File::Data(DataFileRecord::read(&words))),
+            false => Ok(File::Delete(DeleteFileRecord::read(&words))),
+        }
+    }
+
+    // How calls are made
+
+    /// A call on the tables; the counts that it hands back are the next call's.
+    fn change(&mut self, call: impl FnOnce(Tables<'_>, Counts) -> Outcome) -> Result<Outcome, Refusal> {
+        let given = Refusal::judge(call(self.lent.lend(), self.counts))?;
+        self.counts = given.counts;
+        Ok(given)
+    }
+
+    /// A commit, and the snapshot that it made, which is the last.
+    fn commit(&mut self, call: impl FnOnce(Tables<'_>, Counts) -> Outcome) -> Result<SnapshotRecord, Refusal> {
+        let last = self.change(call)?.counts.snapshots - 1;
+        Ok(SnapshotRecord::read(&self.lent.view().snapshots[last * SnapshotRecord::SIZE..]))
+    }
+
+    /// A reading, on an area that is doubled until the answer has room.
+    fn read(&self, call: impl Fn(TablesView<'_>, Counts, &mut [u64]) -> Outcome) -> Result<Vec<u64>, Refusal> {
+        let mut area = vec![0; 64];
+        loop {
+            match Refusal::judge(call(self.lent.view(), self.counts, &mut area)) {
+                Err(refusal) if refusal.number == SHORT_ANSWER_AREA => area.resize(2 * area.len(), 0),
+                Err(refusal) => return Err(refusal),
+                Ok(given) => {
+                    area.truncate(given.length);
+                    return Ok(area);
+                }
+            }
+        }
+    }
+}
+
+/// A file list's words, two for a file.
+fn listed(words: &[u64]) -> Vec<Listed> {
+    let delete_file = |word: u64| if word == ABSENT { None } else { Some(FileId(word)) };
+    words.chunks_exact(2).map(|file| Listed { data_file: FileId(file[0]), delete_file: delete_file(file[1]) }).collect()
+}

@@ -1,0 +1,30 @@
+//! A DuckLake 0.3 snapshot catalogue on lent tables, for safe Rust: the compiled calls of the crates `catalog_*`.
+//!
+//! A [`Catalog`] is tables, which it owns ([`OwnedTables`]) or is lent ([`Tables`]), with the counts of what is used in them. Its methods are the calls. Each
+//! takes any content of the tables, and either does what document 01 says or gives a [`Refusal`] and changes nothing.
+//!
+//! [`raw`] has the same calls with every argument and the whole outcome, answer area and all. All that is unsafe stands there.
+#![deny(unsafe_code)]
+
+mod catalog;
+/// Numbers, limits, names of sizes: the source that the proofs are about.
+#[path = "../../../crates/layout/src/number.rt"]
+pub mod number;
+/// Counts, outcomes, the refusals' numbers: the same.
+#[path = "../../../crates/layout/src/outcome.rt"]
+pub mod outcome;
+pub mod raw;
+/// The records and the words of their fields: the same.
+#[path = "../../../crates/layout/src/record.rt"]
+pub mod record;
+mod refusal;
+mod tables;
+mod values;
+
+pub use catalog::{Catalog, File, Handed, Listed};
+pub use number::{CatalogId, FileId, RowId, SnapshotId};
+pub use outcome::{Counts, Outcome};
+pub use record::{DataFileRecord, DeleteFileRecord, SnapshotRecord, Uuid};
+pub use refusal::{sentence, Refusal};
+pub use tables::{Lend, OwnedTables, Tables, TablesView};
+pub use values::{ColumnType, NewColumn, NewStatistics};

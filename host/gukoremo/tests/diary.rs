@@ -1,0 +1,139 @@
+//! Document 01's diary session through the safe calls: its marked cases and the others, on tables that are owned and on tables that are lent.
+
+use gukoremo::outcome::{
+    ALREADY_DELETED, BAD_COLUMNS, BAD_NAME, BAD_RECORD_COUNT, EXPIRES_LATEST, NOT_LIVE, NOT_SOUND, NO_ROOM, NO_SNAPSHOT_BY_THEN, SCHEMA_NOT_EMPTY,
+};
+use gukoremo::{
+    Catalog, CatalogId, ColumnType, Counts, File, FileId, Handed, Lend, Listed, NewColumn, NewStatistics, OwnedTables, Refusal, SnapshotId, Uuid,
+};
+
+const MAIN: CatalogId = CatalogId(0);
+const DIARY: CatalogId = CatalogId(1);
+
+/// A little more than the session needs.
+const ROOM: Counts =
+    Counts { snapshots: 8, schemas: 1, tables: 2, columns: 4, data_files: 3, delete_files: 2, positions: 3, statistics: 6, scheduled: 3 };
+
+fn uuid(low: u64) -> Uuid {
+    Uuid { high: 0, low }
+}
+
+fn statistics(item: (i64, i64), price: (i64, i64), nulls: u64) -> [NewStatistics; 2] {
+    [
+        NewStatistics { column: 1, null_count: 0, min: Some(item.0), max: Some(item.1) },
+        NewStatistics { column: 2, null_count: nulls, min: Some(price.0), max: Some(price.1) },
+    ]
+}
+
+fn columns<'a>() -> [NewColumn<'a>; 2] {
+    [
+        NewColumn { name: "item", column_type: ColumnType::Int64, nulls_allowed: false },
+        NewColumn { name: "price", column_type: ColumnType::Int64, nulls_allowed: true },
+    ]
+}
+
+/// The session up to time 150.
+fn play<T: Lend>(tables: T) -> Result<Catalog<T>, Refusal> {
+    let mut catalog = Catalog::fresh(tables, 100)?;
+    assert_eq!(catalog.create_table(110, MAIN, "diary", &columns())?.object, DIARY);
+    assert_eq!(catalog.insert(120, DIARY, 3, uuid(1), &statistics((1, 3), (9, 14), 0))?.next_file_id, FileId(1));
+    assert_eq!(catalog.insert(130, DIARY, 2, uuid(2), &statistics((4, 5), (20, 20), 1))?.id, SnapshotId(3));
+    catalog.delete(140, FileId(0), uuid(3), &[1])?;
+    catalog.delete(150, FileId(0), uuid(4), &[0])?;
+    Ok(catalog)
+}
+
+fn rows<T: Lend>(catalog: &Catalog<T>, snapshot: u64) -> Vec<u64> {
+    catalog.list_rows(SnapshotId(snapshot), DIARY).unwrap().iter().map(|row| row.0).collect()
+}
+
+fn number<V>(result: Result<V, Refusal>) -> u64 {
+    result.err().map_or(0, |refusal| refusal.number)
+}
+
+#[test]
+fn rows_files_and_times() {
+    let catalog = play(OwnedTables::with_room(ROOM)).unwrap();
+    // "M rows at 1: none; M 2: 0 1 2; M 3: 0 to 4; M 4: 0 2 3 4; M 5: 2 3 4."
+    let shown: Vec<Vec<u64>> = (1..=5).map(|snapshot| rows(&catalog, snapshot)).collect();
+    assert_eq!(shown, [vec![], vec![0, 1, 2], vec![0, 1, 2, 3, 4], vec![0, 2, 3, 4], vec![2, 3, 4]]);
+    // "M price = 14 at 5: file 0; M 15: none; M 20: file 1."
+    let first = Listed { data_file: FileId(0), delete_file: Some(FileId(3)) };
+    let second = Listed { data_file: FileId(1), delete_file: None };
+    let price = |scalar| catalog.list_filtered_files(SnapshotId(5), DIARY, 2, scalar).unwrap();
+    assert_eq!((price(14), price(15), price(20)), (vec![first], vec![], vec![second]));
+    assert_eq!(catalog.list_files(SnapshotId(5), DIARY).unwrap(), [first, second]);
+    // "M by time 119: 1; 99: refusal 7."
+    assert_eq!(catalog.snapshot_by_time(119), Ok(SnapshotId(1)));
+    assert_eq!(number(catalog.snapshot_by_time(99)), NO_SNAPSHOT_BY_THEN);
+    // what the session made, by every other reading
+    assert_eq!(catalog.list_schemas(SnapshotId(0)).unwrap(), [MAIN]);
+    assert_eq!(catalog.list_tables(SnapshotId(0), MAIN).unwrap(), []);
+    assert_eq!(catalog.list_tables(SnapshotId(1), MAIN).unwrap(), [DIARY]);
+    assert_eq!(catalog.list_columns(SnapshotId(5), DIARY).unwrap(), [1, 2]);
+    assert_eq!(catalog.table_by_name(SnapshotId(5), MAIN, "diary"), Ok(DIARY));
+    assert_eq!(number(catalog.table_by_name(SnapshotId(5), MAIN, "Diary")), NOT_LIVE);
+    assert!(matches!(catalog.copy_file(FileId(1)), Ok(File::Data(file)) if file.record_count == 2 && file.row_id_start.0 == 3));
+    assert!(matches!(catalog.copy_file(FileId(3)), Ok(File::Delete(file)) if file.data_file == FileId(0) && file.delete_count == 2));
+    assert_eq!(catalog.copy_file(FileId(3)).unwrap().uuid().path(), "ducklake-00000000-0000-0000-0000-000000000004.parquet");
+}
+
+#[test]
+fn expiry_and_cleanup() {
+    let mut catalog = play(OwnedTables::with_room(ROOM)).unwrap();
+    let handed = |file, low| Handed { file: FileId(file), uuid: uuid(low) };
+    // "M expire 4 at 160: delete file 2 is scheduled; M cleanup 160: nothing; M cleanup 161: file 2. Expire 5: 19."
+    catalog.expire(&[SnapshotId(4)], 160).unwrap();
+    assert_eq!(catalog.counts().scheduled, 1);
+    assert_eq!(catalog.cleanup(160).unwrap(), []);
+    assert_eq!(catalog.cleanup(161).unwrap(), [handed(2, 3)]);
+    assert_eq!(number(catalog.expire(&[SnapshotId(5)], 165)), EXPIRES_LATEST);
+    // "Drop at 170 is snapshot 6; M expire 0 1 2 3 5 then schedules 0, 1, 3."
+    assert_eq!(catalog.drop_table(170, DIARY).unwrap().id, SnapshotId(6));
+    catalog.expire(&[0, 1, 2, 3, 5].map(SnapshotId), 180).unwrap();
+    assert_eq!(catalog.cleanup(181).unwrap(), [handed(0, 1), handed(1, 2), handed(3, 4)]);
+}
+
+#[test]
+fn refusals_change_nothing() {
+    let mut catalog = play(OwnedTables::with_room(ROOM)).unwrap();
+    let before = catalog.counts();
+    // "1,048,576 rows pass; 0 and 1,048,577 give 13. Name of 32 bytes passes; 33: 9."
+    for record_count in [0, 1_048_577] {
+        assert_eq!(number(catalog.insert(160, DIARY, record_count, uuid(5), &statistics((1, 1), (1, 1), 0))), BAD_RECORD_COUNT);
+    }
+    assert_eq!(number(catalog.create_table(160, MAIN, "n".repeat(33), &columns())), BAD_NAME);
+    let long = "n".repeat(33);
+    let too_long = [NewColumn { name: &long, column_type: ColumnType::Int8, nulls_allowed: true }];
+    assert_eq!(number(catalog.create_table(160, MAIN, "t", &too_long)), BAD_COLUMNS);
+    let again = catalog.delete(160, FileId(0), uuid(5), &[0, 2]).unwrap_err();
+    assert_eq!((again.number, again.place), (ALREADY_DELETED, 0));
+    assert_eq!(again.to_string(), "refused with 17: a position already deleted, at 0 of the list");
+    assert_eq!(number(catalog.delete(160, FileId(0), uuid(5), &[2])), NO_ROOM);
+    assert_eq!(catalog.counts(), before);
+    // the other side
+    let room = Counts { snapshots: 10, schemas: 2, ..ROOM };
+    let mut roomy = play(OwnedTables::with_room(room)).unwrap();
+    roomy.insert(160, DIARY, 1_048_576, uuid(5), &statistics((1, 1), (1, 1), 0)).unwrap();
+    roomy.create_table(160, MAIN, "n".repeat(32), &columns()).unwrap();
+    assert_eq!(roomy.list_rows(SnapshotId(6), DIARY).unwrap().len(), 3 + 1_048_576);
+    let sales = roomy.create_schema(170, "sales").unwrap().object;
+    assert_eq!(roomy.list_schemas(SnapshotId(8)).unwrap(), [MAIN, sales]);
+    assert_eq!(number(roomy.drop_schema(180, MAIN)), SCHEMA_NOT_EMPTY);
+    roomy.drop_schema(180, sales).unwrap();
+    assert_eq!(roomy.list_schemas(SnapshotId(9)).unwrap(), [MAIN]);
+}
+
+#[test]
+fn lent_tables_and_tables_that_were_kept() {
+    let mut kept = OwnedTables::with_room(ROOM);
+    let counts = play(kept.lend()).unwrap().counts();
+    let catalog = Catalog::resume(kept.clone(), counts);
+    assert_eq!(rows(&catalog, 5), [2, 3, 4]);
+    // whatever the tables and the counts are
+    kept.snapshots[0] = 77;
+    assert_eq!(number(Catalog::resume(kept.lend(), counts).list_schemas(SnapshotId(5))), NOT_SOUND);
+    let most = Counts { scheduled: usize::MAX, ..counts };
+    assert_eq!(number(Catalog::resume(kept.lend(), most).cleanup(u64::MAX)), NOT_SOUND);
+    assert_eq!(number(Catalog::fresh(OwnedTables::default(), 100).map(|_| ())), NO_ROOM);
+}
