@@ -11,8 +11,8 @@ use Rattle.lists.proofs.Selections.{all-weaken}
 use Rattle.layout.specs.declared.outcome.Counts.{Counts}
 use Rattle.layout.specs.Catalog.{absent, Catalog}
 use Rattle.layout.specs.Fields.{snapshotSize}
-use Rattle.layout.specs.Words.{Words, load, positionsBefore, capacity, within, fits, dataFilesIn, deleteFilesIn}
-use Rattle.layout.proofs.Room.{Held, fitting}
+use Rattle.layout.specs.Words.{Words, load, tableLimit, positionsBefore, capacity, within, fits, dataFilesIn, deleteFilesIn}
+use Rattle.layout.proofs.Room.{Held, fitting, reflects-within}
 use Rattle.ducklake.specs.Liveness.{latestOf}
 use Rattle.ducklake.specs.Soundness.{snapshotInRange, schemaInRange, tableInRange, columnInRange, dataFileInRange, deleteFileInRange, statisticsInRange, scheduledInRange, fieldsInRange, snapshotsRise, idsAscend, lifeSound, livesSound, idsBelowNext, livesNest, filesDistinct, namesApart, deletesSound, rowRangesSound, statisticsSound, columnCountsSound, soundCatalog, sound}
 use Rattle.lookup.specs.Order.{SnapshotsById, TablesById, ColumnsByTable}
@@ -22,13 +22,18 @@ use Rattle.soundness_fields.specs.Lent.{FieldsLent, IdsLent}
 use Rattle.soundness_fields.proofs.Ids.{IdsFound, ids-found, snapshots-found}
 use Rattle.soundness_lives.specs.Lent.{LivesLent, Nestable}
 use Rattle.soundness_statistics.specs.Relied.{StatisticsCheckable}
-use Rattle.soundness_unique.specs.Relied.{FilesById, Numbered, Named}
+use Rattle.soundness_unique.specs.Relied.{FilesHeld, Numbered, Named}
 use Rattle.soundness.specs.Stages.{ordered, placed, consistent, Ordered, Placed}
 
 -- the first stage relies on counts that fit
 module _ (w : Words) (c : Counts) (h : fits w c ≡ true) where
   held : Held w c
   held = fitting w c h .0
+
+  within-limits : (c .schemas ≤ tableLimit) × (c .columns ≤ tableLimit) × (c .scheduled ≤ tableLimit)
+  unfolding fits capacity
+  within-limits =
+      let k = reflects-within c (capacity w) .to (both (within c (capacity w)) (eqb (positionsBefore (w .deleteFiles) (c .«delete_files»)) (c .positions)) h .0) in omega arith
 
   pub snapshots-lent : snapshotSize * c .snapshots ≤ length (w .snapshots)
   snapshots-lent = held .snapshots
@@ -130,8 +135,15 @@ module _ {w : Words} {c : Counts} (p : Placed w c) where
       (λ v e. both (leb (v .begin) (latestOf ns .id) && (eqb (v .end) absent || leb (v .end) (latestOf ns .id))) (ltb (v .begin) (v .end)) (both _ _ e .0) .1)
       (both (all (lifeSound ns) (C .schemas) && all (lifeSound ns) (C .tables) && all (lifeSound ns) (C .columns) && all (lifeSound ns) (C .dataFiles)) (all (lifeSound ns) (C .deleteFiles)) (lives-found .0) .1)
 
-  pub files-by-id : FilesById (w .dataFiles) (w .deleteFiles) (w .scheduled) c
-  files-by-id = record { dataFilesById = found (p .before) .dataFiles; deleteFilesById = found (p .before) .deleteFiles; scheduledLent = held w c (p .before .fit) .scheduled }
+  pub files-held : FilesHeld (w .dataFiles) (w .deleteFiles) (w .scheduled) c
+  files-held =
+      let k = held w c (p .before .fit) in
+      record {
+        filesLent = record { dataFilesLent = k .dataFiles; deleteFilesLent = k .deleteFiles; scheduledLent = k .scheduled };
+        fewDataFiles = k .dataFilesMost;
+        fewDeleteFiles = k .deleteFilesMost;
+        fewScheduled = within-limits w c (p .before .fit) .2;
+      }
 
   pub named : Named (w .schemas) (w .schemaNames) (w .tables) (w .tableNames) (w .columns) (w .columnNames) c
   named = record {
@@ -148,7 +160,6 @@ module _ {w : Words} {c : Counts} (p : Placed w c) where
       let k = fitting w c (p .before .fit) in
       record {
         dataFilesById = found (p .before) .dataFiles;
-        fewDataFiles = k .0 .dataFilesMost;
         fewDeleteFiles = k .0 .deleteFilesMost;
         positionsWithin = record { lent = k .0 .deleteFiles; within = omega (arith, k .1, k .0 .positions, k .0 .positionsMost) };
         lives = delete-files-live;

@@ -1,2 +1,3 @@
 pub mod DeleteFiles
+pub mod DeleteOrder
 pub mod RowRanges

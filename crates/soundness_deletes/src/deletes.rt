@@ -1,13 +1,14 @@
 ghost use mathlib.Core.Path.{_≡_};
-ghost use Prim.Native.Nat.{_+_, _<_};
-ghost use Rattle.lists.specs.Lists.{all, pairwise};
-ghost use Rattle.lists.specs.Runs.{from};
+ghost use mathlib.Core.Bool.{true};
+ghost use Prim.Native.Nat.{_≤_};
+ghost use lib.Dec.{ltb};
+ghost use Rattle.lists.specs.Lists.{all, pairwise, chained};
 ghost use Rattle.layout.specs.Catalog.{deleteFileOf};
-ghost use Rattle.layout.specs.Words.{Words, load, dataFilesIn, deleteFileAt, deleteFilesIn};
+ghost use Rattle.layout.specs.Words.{Words, load, tableLimit, dataFilesIn, deleteFileAt, deleteFilesIn};
 ghost use Rattle.ducklake.specs.Soundness.{succeededBy, deleteFilesApart, positionsSound, deletesSound};
 ghost use Rattle.lookup.specs.Order.{DataFilesById};
 ghost use Rattle.lookup.specs.Positions.{PositionsLocated};
-ghost use Rattle.soundness_deletes.specs.Deletes.{laterSucceeds, DeletesCheckable, DeletesComparable, PositionsComparable, PositionsComparableAt};
+ghost use Rattle.soundness_deletes.specs.Deletes.{fewDeleteFiles, apartAt, DeletesCheckable, DeletesComparable, DeletesSortable, PositionsComparable, PositionsComparableAt};
 use layout::number::TABLE_LIMIT;
 use layout::outcome::Counts;
 use layout::record::DeleteFileRecord;
@@ -22,6 +23,11 @@ use records::delete_file::delete_file_data_file;
 use runs::subset::is_subset;
 use runs::words::words_ascend;
 use runs::words::words_below;
+use sorting::keys::put_words;
+use sorting::sort::sort_places;
+
+// So few delete files take little scratch.
+const FEW_DELETE_FILES: usize = 64;
 
 // "positions ascend strictly below record_count; delete_count is 1 or more", of a delete file and its positions
 fn positions_sound(data_files: &[u64], n: usize, d: DeleteFileRecord, own: &[u64]) -> bool
@@ -95,41 +101,7 @@ fn succeeded(delete_files: &[u64], positions: &[u64], starts: &[usize], i: usize
     is_subset(earlier, later)
 }
 
-// Whether each delete file succeeds the one before it of its data file, and with it all earlier ones: in one pass that notes, for each data
-// file, the last delete file seen.
-fn succeed_in_order(
-    data_files: &[u64],
-    delete_files: &[u64],
-    positions: &[u64],
-    starts: &[usize],
-    counts: Counts,
-) -> bool
-    requires { ⌜ DeletesComparable (now «data_files») (now «delete_files») (now positions) (now starts) counts ⌝ }
-    ensures { λ r. ⌜ r ≡ pairwise laterSucceeds (deleteFilesIn (now («delete_files» .entry)) (now (positions .entry)) (counts .«delete_files»)) ⌝ }
-{
-    let mut last = [0usize; TABLE_LIMIT];
-    let mut i: usize = 0;
-    while i < counts.delete_files {
-        let file = delete_file_data_file(delete_files, i);
-        let found = find_data_file(data_files, counts.data_files, file);
-        let Found::At(k) = found else {
-            return false;
-        };
-        let before = last[k];
-        let at = i;
-        i += 1;
-        last[k] = i;
-        if before != 0 {
-            let ok = succeeded(delete_files, positions, starts, before - 1, at);
-            if !ok {
-                return false;
-            }
-        }
-    }
-    true
-}
-
-// Two delete files in any order of ids.
+// Whether two delete files are apart, in any order.
 fn delete_files_apart(
     delete_files: &[u64],
     positions: &[u64],
@@ -154,35 +126,21 @@ fn delete_files_apart(
     succeeded(delete_files, positions, starts, j, i)
 }
 
-fn delete_file_apart(
+// Whether each two that follow each other in w are apart.
+fn neighbours_apart(
     delete_files: &[u64],
     positions: &[u64],
     starts: &[usize],
     n: usize,
-    i: usize,
+    w: &[usize],
 ) -> bool
-    requires { ⌜ PositionsComparable (now «delete_files») (now positions) (now starts) n × (i < n) ⌝ }
-    ensures { λ r. ⌜ r ≡ all (deleteFilesApart (deleteFileAt (now («delete_files» .entry)) (now (positions .entry)) i))
-        (from (deleteFileAt (now («delete_files» .entry)) (now (positions .entry))) (i + 1) n) ⌝ }
+    requires { ⌜ PositionsComparable (now «delete_files») (now positions) (now starts) n × (all (λ p. ltb p n) (now w) ≡ true) ⌝ }
+    ensures { λ r. ⌜ r ≡ chained (apartAt (now («delete_files» .entry)) (now (positions .entry))) (now (w .entry)) ⌝ }
 {
-    let mut j = i + 1;
-    while j < n {
-        let ok = delete_files_apart(delete_files, positions, starts, i, j);
-        if !ok {
-            return false;
-        }
-        j += 1;
-    }
-    true
-}
-
-fn all_pairs_apart(delete_files: &[u64], positions: &[u64], starts: &[usize], n: usize) -> bool
-    requires { ⌜ PositionsComparable (now «delete_files») (now positions) (now starts) n ⌝ }
-    ensures { λ r. ⌜ r ≡ pairwise deleteFilesApart (deleteFilesIn (now («delete_files» .entry)) (now (positions .entry)) n) ⌝ }
-{
+    let m = w.len();
     let mut i: usize = 0;
-    while i < n {
-        let ok = delete_file_apart(delete_files, positions, starts, n, i);
+    while i + 1 < m {
+        let ok = delete_files_apart(delete_files, positions, starts, w[i], w[i + 1]);
         if !ok {
             return false;
         }
@@ -191,23 +149,88 @@ fn all_pairs_apart(delete_files: &[u64], positions: &[u64], starts: &[usize], n:
     true
 }
 
-// "two delete files of one data file have no common live number; the later holds every position of the earlier". The later one has the higher
-// id in tables that calls have made; where it has not, all pairs are compared.
-fn all_delete_files_apart(
-    data_files: &[u64],
+// "two delete files of one data file have no common live number; the later holds every position of the earlier": by data file and begin, so that
+// those that follow each other decide. As many as w is long; keys, w and v are scratch.
+fn delete_files_apart_by(
     delete_files: &[u64],
     positions: &[u64],
     starts: &[usize],
-    counts: Counts,
+    n: usize,
+    keys: &mut [u64],
+    w: &mut [usize],
+    v: &mut [usize],
 ) -> bool
-    requires { ⌜ DeletesComparable (now «data_files») (now «delete_files») (now positions) (now starts) counts ⌝ }
-    ensures { λ r. ⌜ r ≡ pairwise deleteFilesApart (deleteFilesIn (now («delete_files» .entry)) (now (positions .entry)) (counts .«delete_files»)) ⌝ }
+    requires { ⌜ DeletesSortable (now «delete_files») (now positions) (now starts) n (now keys) (now w) (now v) ⌝ }
+    ensures { λ r. ⌜ r ≡ pairwise deleteFilesApart (deleteFilesIn (now («delete_files» .entry)) (now (positions .entry)) n) ⌝ }
 {
-    let quick = succeed_in_order(data_files, delete_files, positions, starts, counts);
-    if quick {
-        return true;
-    }
-    all_pairs_apart(delete_files, positions, starts, counts.delete_files)
+    put_words(
+        delete_files,
+        DeleteFileRecord::SIZE,
+        DeleteFileRecord::DATA_FILE,
+        n,
+        keys,
+        2,
+        0,
+        0,
+    );
+    put_words(
+        delete_files,
+        DeleteFileRecord::SIZE,
+        DeleteFileRecord::BEGIN,
+        n,
+        keys,
+        2,
+        1,
+        0,
+    );
+    sort_places(keys, 2, w, v);
+    neighbours_apart(delete_files, positions, starts, n, w)
+}
+
+fn few_delete_files_apart(
+    delete_files: &[u64],
+    positions: &[u64],
+    starts: &[usize],
+    n: usize,
+) -> bool
+    requires { ⌜ DeletesComparable (now «delete_files») (now positions) (now starts) n × (n ≤ fewDeleteFiles) ⌝ }
+    ensures { λ r. ⌜ r ≡ pairwise deleteFilesApart (deleteFilesIn (now («delete_files» .entry)) (now (positions .entry)) n) ⌝ }
+{
+    let mut keys = [0u64; 2 * FEW_DELETE_FILES];
+    let mut w = [0usize; FEW_DELETE_FILES];
+    let mut v = [0usize; FEW_DELETE_FILES];
+    delete_files_apart_by(
+        delete_files,
+        positions,
+        starts,
+        n,
+        &mut keys,
+        &mut w[0..n],
+        &mut v[0..n],
+    )
+}
+
+fn all_delete_files_apart(
+    delete_files: &[u64],
+    positions: &[u64],
+    starts: &[usize],
+    n: usize,
+) -> bool
+    requires { ⌜ DeletesComparable (now «delete_files») (now positions) (now starts) n × (n ≤ tableLimit) ⌝ }
+    ensures { λ r. ⌜ r ≡ pairwise deleteFilesApart (deleteFilesIn (now («delete_files» .entry)) (now (positions .entry)) n) ⌝ }
+{
+    let mut keys = [0u64; 2 * TABLE_LIMIT];
+    let mut w = [0usize; TABLE_LIMIT];
+    let mut v = [0usize; TABLE_LIMIT];
+    delete_files_apart_by(
+        delete_files,
+        positions,
+        starts,
+        n,
+        &mut keys,
+        &mut w[0..n],
+        &mut v[0..n],
+    )
 }
 
 pub fn deletes_sound(
@@ -233,5 +256,8 @@ pub fn deletes_sound(
     if !ok {
         return false;
     }
-    all_delete_files_apart(data_files, delete_files, positions, &starts, counts)
+    if counts.delete_files <= FEW_DELETE_FILES {
+        return few_delete_files_apart(delete_files, positions, &starts, counts.delete_files);
+    }
+    all_delete_files_apart(delete_files, positions, &starts, counts.delete_files)
 }

@@ -1,4 +1,4 @@
 pub mod Apart
+pub mod FileKeys
 pub mod FileLists
 pub mod NameHashes
-pub mod UuidHashes

@@ -1,14 +1,16 @@
 -- The ids and UUIDs of each table of files, and lists in which none is twice.
 use Prim.Native.Nat.{ℕ, _+_}
-use mathlib.Core.Bool.{Bool, not}
+use mathlib.Core.Bool.{Bool, not, _&&_}
 use mathlib.Core.List.{List, map}
 use lib.Dec.{eqb}
-use Rattle.lists.specs.Lists.{range, all, pairwise, has}
+use Rattle.lists.specs.Lists.{range, pairwise}
 use Rattle.lists.specs.Runs.{field, fields}
+use Rattle.layout.specs.declared.outcome.Counts.{Counts}
 use Rattle.layout.specs.declared.record.Uuid.{Uuid}
 use Rattle.layout.specs.Fields.{dataFileSize, dataFileIdWord, dataFileUuidHighWord, deleteFileSize, deleteFileIdWord, deleteFileUuidHighWord, scheduledSize, scheduledFileWord, scheduledUuidHighWord}
 use Rattle.layout.specs.Records.{uuidOf}
-use Rattle.ducklake.specs.Soundness.{sameUuid}
+use Rattle.layout.specs.Words.{dataFilesIn, deleteFilesIn, scheduledIn}
+use Rattle.ducklake.specs.Soundness.{idsOfFiles, uuidsOfFiles, sameUuid}
 
 abbrev pub dataFileIds : List ℕ → ℕ → List ℕ
 dataFileIds run n = fields dataFileSize dataFileIdWord run n
@@ -35,19 +37,23 @@ deleteFileUuids run n = uuidsIn deleteFileSize deleteFileUuidHighWord run n
 abbrev pub scheduledUuids : List ℕ → ℕ → List Uuid
 scheduledUuids run n = uuidsIn scheduledSize scheduledUuidHighWord run n
 
--- "no file id or UUID occurs twice": in one list, or in one and another
+-- "no file id or UUID occurs twice"
 
 abbrev pub idsDistinct : List ℕ → Bool
 idsDistinct ids = pairwise (λ a b. not (eqb a b)) ids
 
-abbrev pub idsDisjoint : List ℕ → List ℕ → Bool
-idsDisjoint xs ys = all (λ y. not (has y xs)) ys
-
-abbrev pub uuidDiffers : Uuid → List Uuid → Bool
-uuidDiffers u vs = all (λ v. not (sameUuid u v)) vs
-
 abbrev pub uuidsDistinct : List Uuid → Bool
 uuidsDistinct us = pairwise (λ u v. not (sameUuid u v)) us
 
-abbrev pub uuidsDisjoint : List Uuid → List Uuid → Bool
-uuidsDisjoint us vs = all (λ u. uuidDiffers u vs) us
+-- so few files take little scratch
+abbrev pub fewFiles : ℕ
+fewFiles = 64
+
+abbrev pub fileCount : Counts → ℕ
+fileCount c = c .«data_files» + c .«delete_files» + c .scheduled
+
+-- "no file id or UUID occurs twice over data files, delete files and scheduled"
+abbrev pub filesDiffer : List ℕ → List ℕ → List ℕ → List ℕ → Counts → Bool
+filesDiffer d e x positions c =
+    idsDistinct (idsOfFiles (dataFilesIn d (c .«data_files»)) (deleteFilesIn e positions (c .«delete_files»)) (scheduledIn x (c .scheduled)))
+    && uuidsDistinct (uuidsOfFiles (dataFilesIn d (c .«data_files»)) (deleteFilesIn e positions (c .«delete_files»)) (scheduledIn x (c .scheduled)))

@@ -4,13 +4,15 @@ use mathlib.Core.Path.{_≡_}
 use mathlib.Core.Bool.{true}
 use mathlib.Core.List.{List}
 use lib.ListN.{length}
-use Rattle.lists.specs.Runs.{hashCount, hasHash}
+use Rattle.lists.specs.Runs.{field, hashCount, hasHash}
 use Rattle.layout.specs.declared.outcome.Counts.{Counts}
 use Rattle.layout.specs.Fields.{snapshotSize, schemaSize, tableSize, dataFileSize, deleteFileSize, scheduledSize}
 use Rattle.layout.specs.Names.{nameSize, nameAt}
-use Rattle.lookup.specs.Order.{ColumnsByTable, DataFilesById, DeleteFilesById}
-use Rattle.soundness_unique.specs.Files.{uuidAt}
-use Rattle.soundness_unique.specs.Hashes.{uuidHash, nameHash}
+use Rattle.layout.specs.Words.{tableLimit}
+use Rattle.lookup.specs.Order.{ColumnsByTable}
+use Rattle.soundness_unique.specs.declared.distinct.FileWords.{FileWords}
+use Rattle.soundness_unique.specs.Files.{fileCount}
+use Rattle.soundness_unique.specs.Hashes.{nameHash}
 
 -- the tables of files are lent as far as they are used
 pub record FilesLent (dataFiles deleteFiles scheduled : List ℕ) (counts : Counts) : Type 0 where
@@ -18,11 +20,12 @@ pub record FilesLent (dataFiles deleteFiles scheduled : List ℕ) (counts : Coun
   pub deleteFilesLent : deleteFileSize * counts .«delete_files» ≤ length deleteFiles
   pub scheduledLent : scheduledSize * counts .scheduled ≤ length scheduled
 
--- and data files and delete files can be found by id; scheduled files are in no order
-pub record FilesById (dataFiles deleteFiles scheduled : List ℕ) (counts : Counts) : Type 0 where
-  pub dataFilesById : DataFilesById dataFiles (counts .«data_files»)
-  pub deleteFilesById : DeleteFilesById deleteFiles (counts .«delete_files»)
-  pub scheduledLent : scheduledSize * counts .scheduled ≤ length scheduled
+-- and each is within the limit
+pub record FilesHeld (dataFiles deleteFiles scheduled : List ℕ) (counts : Counts) : Type 0 where
+  pub filesLent : FilesLent dataFiles deleteFiles scheduled counts
+  pub fewDataFiles : counts .«data_files» ≤ tableLimit
+  pub fewDeleteFiles : counts .«delete_files» ≤ tableLimit
+  pub fewScheduled : counts .scheduled ≤ tableLimit
 
 -- the tables whose records have ids from a counter are lent as far as they are used, and there is a latest snapshot
 pub record Numbered (snapshots schemas tables dataFiles deleteFiles scheduled : List ℕ) (counts : Counts) : Type 0 where
@@ -41,20 +44,28 @@ pub record Named (schemas schemaNames tables tableNames columns columnNames : Li
   pub columnsByTable : ColumnsByTable columns (counts .columns)
   pub columnNamesLent : nameSize * counts .columns ≤ length columnNames
 
--- the hashes of the UUIDs from the place `start` on are there
-pub record UuidsAdded (size word : ℕ) (run hashes : List ℕ) (start n : ℕ) : Type 0 where
-  pub lent : size * n ≤ length run
-  pub inside : word + 1 < size
-  pub order : start ≤ n
-  pub whole : length hashes ≡ hashCount
-  pub added : (j : ℕ) → start ≤ j → j < n → hasHash hashes (uuidHash (uuidAt size word run j)) ≡ true
+-- keys of `size` words, as many as there are files, and a word of each table to be put into their word `at`
+pub record FilesPuttable (counts : Counts) (words : FileWords) (size at : ℕ) (keys : List ℕ) : Type 0 where
+  pub inDataFile : words .«data_file» < dataFileSize
+  pub inDeleteFile : words .«delete_file» < deleteFileSize
+  pub inScheduled : words .scheduled < scheduledSize
+  pub room : size * fileCount counts ≤ length keys
+  pub within : at < size
 
--- two runs of records with UUIDs
-pub record TwoUuids (size word : ℕ) (run : List ℕ) (n : ℕ) (otherSize otherWord : ℕ) (other : List ℕ) (m : ℕ) : Type 0 where
-  pub lent : size * n ≤ length run
-  pub inside : word + 1 < size
-  pub otherLent : otherSize * m ≤ length other
-  pub otherInside : otherWord + 1 < otherSize
+-- and keys into which they were put
+pub record FilesPut (d e x : List ℕ) (counts : Counts) (words : FileWords) (size at : ℕ) (old new : List ℕ) : Type 0 where
+  pub dataFiles : (i : ℕ) → i < counts .«data_files» → field size at new i ≡ field dataFileSize (words .«data_file») d i
+  pub deleteFiles : (i : ℕ) → i < counts .«delete_files»
+      → field size at new (counts .«data_files» + i) ≡ field deleteFileSize (words .«delete_file») e i
+  pub scheduled : (i : ℕ) → i < counts .scheduled
+      → field size at new (counts .«data_files» + counts .«delete_files» + i) ≡ field scheduledSize (words .scheduled) x i
+  pub others : (i k : ℕ) → k < size → (k ≡ at → ⊥) → field size k new i ≡ field size k old i
+
+-- scratch for keys of one or two words, and as many places as there are files
+pub record FilesSortable (counts : Counts) (keys w v : List ℕ) : Type 0 where
+  pub room : 2 * fileCount counts ≤ length keys
+  pub places : length w ≡ fileCount counts
+  pub scratch : length v ≡ fileCount counts
 
 -- two records of `size` words with names
 pub record TwoNamed (size : ℕ) (run names : List ℕ) (i j : ℕ) : Type 0 where

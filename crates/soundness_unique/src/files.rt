@@ -5,13 +5,13 @@ ghost use Prim.Native.Nat.{ℕ, _*_, _≤_};
 ghost use lib.Dec.{ltb};
 ghost use lib.ListN.{length};
 ghost use Rattle.lists.specs.Lists.{all};
-ghost use Rattle.layout.specs.Fields.{schemaSize, tableSize, deleteFileSize};
+ghost use Rattle.layout.specs.Fields.{schemaSize, tableSize};
 ghost use Rattle.layout.specs.Words.{Words, load, schemasIn, tablesIn, dataFilesIn, deleteFilesIn, scheduledIn};
 ghost use Rattle.ducklake.specs.Soundness.{idsOfFiles, idsBelowNext, filesDistinct};
-ghost use Rattle.lookup.specs.Order.{DataFilesById};
-ghost use Rattle.soundness_unique.specs.Files.{dataFileIds, deleteFileIds, scheduledIds, idsDistinct, idsDisjoint};
-ghost use Rattle.soundness_unique.specs.Relied.{Numbered, FilesLent, FilesById};
-use crate::uuids::file_uuids_differ;
+ghost use Rattle.soundness_unique.specs.Relied.{Numbered, FilesLent, FilesHeld};
+use crate::distinct::FEW_FILES;
+use crate::distinct::all_files_differ;
+use crate::distinct::few_files_differ;
 use layout::number::CatalogId;
 use layout::number::FileId;
 use layout::outcome::Counts;
@@ -22,8 +22,6 @@ use layout::record::SchemaRecord;
 use layout::record::TableRecord;
 use lookup::find::latest_snapshot;
 use runs::fields::fields_below;
-use runs::pairs::fields_differ;
-use runs::pairs::none_in;
 
 // Whether the ids of schemas and of tables are below that one.
 fn catalog_ids_below(schemas: &[u64], tables: &[u64], counts: Counts, next: CatalogId) -> bool
@@ -108,61 +106,6 @@ pub fn ids_below_next(
     a & b
 }
 
-// Whether no delete file has the id of a data file.
-fn delete_file_ids_differ(data_files: &[u64], n: usize, delete_files: &[u64], m: usize) -> bool
-    requires { ⌜ DataFilesById (now «data_files») n × (deleteFileSize * m ≤ length (now «delete_files»)) ⌝ }
-    ensures { λ r. ⌜ r ≡ idsDisjoint (dataFileIds (now («data_files» .entry)) n) (deleteFileIds (now («delete_files» .entry)) m) ⌝ }
-{
-    none_in(
-        data_files,
-        DataFileRecord::SIZE,
-        DataFileRecord::ID,
-        n,
-        delete_files,
-        DeleteFileRecord::SIZE,
-        DeleteFileRecord::ID,
-        m,
-    )
-}
-
-// Whether no scheduled file has the id of a data file, of a delete file or of another scheduled file.
-fn scheduled_ids_differ(
-    data_files: &[u64],
-    delete_files: &[u64],
-    scheduled: &[u64],
-    counts: Counts,
-) -> bool
-    requires { ⌜ FilesById (now «data_files») (now «delete_files») (now scheduled) counts ⌝ }
-    ensures { λ r. ⌜ r ≡ (
-        idsDisjoint (dataFileIds (now («data_files» .entry)) (counts .«data_files»)) (scheduledIds (now (scheduled .entry)) (counts .scheduled))
-        && idsDisjoint (deleteFileIds (now («delete_files» .entry)) (counts .«delete_files»)) (scheduledIds (now (scheduled .entry)) (counts .scheduled))
-        && idsDistinct (scheduledIds (now (scheduled .entry)) (counts .scheduled))) ⌝ }
-{
-    let k = counts.scheduled;
-    let a = none_in(
-        data_files,
-        DataFileRecord::SIZE,
-        DataFileRecord::ID,
-        counts.data_files,
-        scheduled,
-        ScheduledRecord::SIZE,
-        ScheduledRecord::FILE,
-        k,
-    );
-    let b = none_in(
-        delete_files,
-        DeleteFileRecord::SIZE,
-        DeleteFileRecord::ID,
-        counts.delete_files,
-        scheduled,
-        ScheduledRecord::SIZE,
-        ScheduledRecord::FILE,
-        k,
-    );
-    let c = fields_differ(scheduled, ScheduledRecord::SIZE, ScheduledRecord::FILE, k);
-    a & b & c
-}
-
 // "no file id or UUID occurs twice over data files, delete files and scheduled"
 pub fn files_distinct(
     data_files: &[u64],
@@ -170,20 +113,16 @@ pub fn files_distinct(
     scheduled: &[u64],
     counts: Counts,
 ) -> bool
-    requires { ⌜ FilesById (now «data_files») (now «delete_files») (now scheduled) counts ⌝ }
+    requires { ⌜ FilesHeld (now «data_files») (now «delete_files») (now scheduled) counts ⌝ }
     ensures { λ r. ⌜ ((w : Words)
         → w .dataFiles ≡ now («data_files» .entry)
         → w .deleteFiles ≡ now («delete_files» .entry)
         → w .scheduled ≡ now (scheduled .entry)
         → r ≡ filesDistinct (load w counts)) ⌝ }
 {
-    let a = delete_file_ids_differ(
-        data_files,
-        counts.data_files,
-        delete_files,
-        counts.delete_files,
-    );
-    let b = scheduled_ids_differ(data_files, delete_files, scheduled, counts);
-    let c = file_uuids_differ(data_files, delete_files, scheduled, counts);
-    a & b & c
+    let n = counts.data_files + counts.delete_files + counts.scheduled;
+    if n <= FEW_FILES {
+        return few_files_differ(data_files, delete_files, scheduled, counts, n);
+    }
+    all_files_differ(data_files, delete_files, scheduled, counts, n)
 }

@@ -2,7 +2,7 @@
 use borrow.Author.Needs.{needs}
 use mathlib.Core.Path.{refl}
 use Rattle.layout.specs.Words.{Words, lent, load}
-use Rattle.soundness.proofs.StageLaws.{lives-found, files-by-id, named, deletes-checkable, row-ranges-checkable, statistics-checkable, tables-and-columns, consistent-is}
+use Rattle.soundness.proofs.StageLaws.{lives-found, files-held, named, deletes-checkable, row-ranges-checkable, statistics-checkable, tables-and-columns, consistent-is}
 use Rattle.soundness.proofs.stages.is_consistent.Statement.{statement}
 use Rattle.soundness.proofs.stages.is_consistent.Tie as tie
 
@@ -22,5 +22,5 @@ pub is-consistent-spec : {M : Type 1} → statement M
 is-consistent-spec =
     tie.close
     (tie.spec
-    (λ c κs. search (needs, files-by-id)) (λ c κs. search (needs, named)) (λ c κs. search (needs, deletes-checkable)) (λ c κs. search (needs, row-ranges-checkable))
+    (λ c κs. search (needs, files-held)) (λ c κs. search (needs, named)) (λ c κs. search (needs, deletes-checkable)) (λ c κs. search (needs, row-ranges-checkable))
     (λ c κs. search (needs, statistics-checkable)) (λ c κs. search (needs, tables-and-columns)) returns)

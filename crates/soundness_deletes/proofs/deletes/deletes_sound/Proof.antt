@@ -6,7 +6,7 @@ use Rattle.lists.proofs.Loops.{filled-taken}
 use Rattle.lists.proofs.Tests.{passed, failed}
 use Rattle.layout.specs.Words.{load}
 use Rattle.ducklake.specs.Soundness.{deletesSound}
-use Rattle.soundness_deletes.proofs.DeleteFiles.{located}
+use Rattle.soundness_deletes.proofs.DeleteFiles.{located, comparable}
 use Rattle.soundness_deletes.proofs.deletes.deletes_sound.Statement.{statement}
 use Rattle.soundness_deletes.proofs.deletes.deletes_sound.Tie as tie
 
@@ -20,20 +20,33 @@ returns : tie.Need-returns
 unfolding load deletesSound
 returns c w f d x = rw (f, d, x) (sym (rw (failed (c .before .all-positions-sound .ensures) (c .if1 .taken), and-false) refl))
 
-all-delete-files-apart-requires : tie.Need-all-delete-files-apart-requires
-all-delete-files-apart-requires c κs =
-    let t = c .before .before in
+few-delete-files-apart-requires : tie.Need-few-delete-files-apart-requires
+few-delete-files-apart-requires c κs =
+    let t = c .before .before .before .before in
     let s = t .before .before .before in
     let p = s .before .before .before .before .before .pre in
-    record { checkable = p; located = located p (filled-taken _ _ _ (s .position-starts .ensures)); sound = passed (t .all-positions-sound .ensures) (c .before .if1 .left) }
+    (comparable p (located p (filled-taken _ _ _ (s .position-starts .ensures))) (passed (t .all-positions-sound .ensures) (c .before .before .before .if1 .left)), c .before .if2 .taken)
 
 returns-2 : tie.Need-returns-2
 unfolding load deletesSound
 returns-2 c w f d x =
-    let t = c .before .before .before in
-    rw (f, d, x) (c .all-delete-files-apart .ensures ∙ sym (rw (passed (t .all-positions-sound .ensures) (c .before .before .if1 .left), and-true) refl))
+    let t = c .before .before .before .before .before in
+    rw (f, d, x) (c .few-delete-files-apart .ensures ∙ sym (rw (passed (t .all-positions-sound .ensures) (c .before .before .before .before .if1 .left), and-true) refl))
+
+all-delete-files-apart-requires : tie.Need-all-delete-files-apart-requires
+all-delete-files-apart-requires c κs =
+    let t = c .before .before .before .before in
+    let s = t .before .before .before in
+    let p = s .before .before .before .before .before .pre in
+    (comparable p (located p (filled-taken _ _ _ (s .position-starts .ensures))) (passed (t .all-positions-sound .ensures) (c .before .before .before .if1 .left)), p .fewDeleteFiles)
+
+returns-3 : tie.Need-returns-3
+unfolding load deletesSound
+returns-3 c w f d x =
+    let t = c .before .before .before .before .before in
+    rw (f, d, x) (c .all-delete-files-apart .ensures ∙ sym (rw (passed (t .all-positions-sound .ensures) (c .before .before .before .before .if1 .left), and-true) refl))
 
 pub deletes-sound-spec : {M : Type 1} → statement M
 deletes-sound-spec =
     tie.close
-    (tie.spec (λ c. search needs) (λ c κs. search needs) (λ c. search needs) all-positions-sound-requires returns (λ c. search needs) all-delete-files-apart-requires returns-2)
+    (tie.spec (λ c. search needs) (λ c κs. search needs) (λ c. search needs) all-positions-sound-requires returns (λ c. search needs) few-delete-files-apart-requires returns-2 (λ c. search needs) all-delete-files-apart-requires returns-3)

@@ -1,0 +1,5 @@
+pub mod KeyOrder
+pub mod Merging
+pub mod Passes
+pub mod Permutations
+pub mod Putting

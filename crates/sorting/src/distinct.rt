@@ -1,0 +1,33 @@
+ghost use mathlib.Core.Path.{_≡_};
+ghost use mathlib.Core.Bool.{not};
+ghost use Prim.Native.Nat.{_*_, _≤_};
+ghost use lib.ListN.{length};
+ghost use Rattle.lists.specs.Lists.{range, pairwise, chained};
+ghost use Rattle.sorting.specs.Keys.{sameKey, Keyed};
+use crate::keys::same_key;
+use crate::sort::sort_places;
+
+fn neighbours_differ(keys: &[u64], size: usize, w: &[usize]) -> bool
+    requires { ⌜ Keyed size (now keys) (now w) ⌝ }
+    ensures { λ r. ⌜ r ≡ chained (λ i j. not (sameKey size (now (keys .entry)) i j)) (now (w .entry)) ⌝ }
+{
+    let n = w.len();
+    let mut i: usize = 0;
+    while i + 1 < n {
+        let same = same_key(keys, size, w[i], w[i + 1]);
+        if same {
+            return false;
+        }
+        i += 1;
+    }
+    true
+}
+
+// Whether no two keys, as many as w is long, are equal; w and v are scratch.
+pub fn keys_differ(keys: &[u64], size: usize, w: &mut [usize], v: &mut [usize]) -> bool
+    requires { ⌜ (size * length (now w) ≤ length (now keys)) × (length (now v) ≡ length (now w)) ⌝ }
+    ensures { λ r. ⌜ r ≡ pairwise (λ i j. not (sameKey size (now (keys .entry)) i j)) (range 0 (length (now (w .entry)))) ⌝ }
+{
+    sort_places(keys, size, w, v);
+    neighbours_differ(keys, size, w)
+}
