@@ -1,12 +1,23 @@
-.PHONY: test run library
+.PHONY: test run library fuzz bench
 
 # Proves every crate from nothing, tries the must-fail edits, runs the programs and the scripts of tests/.
 test:
 	@sh tests/run
 
+# Proves the program `diary` and what it stands on, saying so on the way, and runs it: document 01's three lines. Minutes the first time, seconds after that.
 run:
-	@echo "The program that plays the diary session is not part of this delivery; 'make run' will play it."
+	@{ rt check diary 2>&1; echo "rt: ended with $$?"; } | sed -n -u '/^rt: /p' | tee /dev/stderr | grep -q -x 'rt: ended with 0' && target/bin/diary
 
 # The public calls as one archive, for include/gukoremo.h and host/gukoremo.
 library:
 	@sh host/library
+
+# So many random calls and damaged tables, or more: make fuzz N=1000000, from the clock's seed or from SEED=..; a find is printed as the smallest list that shows it.
+fuzz: library
+	@cargo build --release --offline --quiet --target-dir target/host --manifest-path host/differ/Cargo.toml
+	@target/host/release/differ fuzz $(or $(N),100000) $(SEED)
+
+# The table of docs/BENCHMARKS.md, measured here.
+bench: library
+	@cargo build --release --offline --quiet --target-dir target/host --manifest-path host/differ/Cargo.toml
+	@target/host/release/differ bench

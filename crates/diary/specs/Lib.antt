@@ -1,0 +1,4 @@
+pub mod Session
+pub mod Listing
+pub mod Room
+pub mod Program

@@ -1,0 +1,26 @@
+-- `write_path` meets its contract: the UUID is written behind the first bytes, and the last bytes behind the UUID.
+use borrow.Author.Needs.{needs}
+use native.Mathlib.Omega.{arith}
+use Rattle.ducklake.specs.Paths.{path}
+use Rattle.paths.proofs.Lengths.{uuid-length}
+use Rattle.paths.proofs.Pieces.{written-then}
+use Rattle.paths.proofs.path.write_path.Statement.{statement}
+use Rattle.paths.proofs.path.write_path.Tie as tie
+
+write-bytes-requires-2 : tie.Need-write-bytes-requires-2
+write-bytes-requires-2 c κs =
+    let s = c .before .before .before .before .before .before .before .before .before .before .before .before in
+    omega (arith, uuid-length (s .args .uuid))
+
+returns : tie.Need-returns
+unfolding path
+returns c =
+    let uuid = c .before .before .before .before .before .before .before in
+    let start = uuid .before .before .before .before in
+    let h = start .before .before .before .before .pre in
+    written-then (written-then (start .write-bytes .ensures) (uuid .write-uuid .ensures) (omega (arith, h))) (c .before .before .write-bytes2 .ensures) (omega (arith, h))
+
+pub write-path-spec : {M : Type 1} → statement M
+write-path-spec =
+    tie.close
+    (tie.spec (λ c. search needs) (λ c κs. search needs) (λ c κs. search needs) (λ c. search needs) write-bytes-requires-2 (λ c. search needs) returns)
