@@ -1,7 +1,7 @@
 //! A case's call, made on the tables that it gives, and what came back against what it says.
 
 use crate::lending::{bytes_of, Lending};
-use crate::runs::{Call, Runs, NAMES};
+use cases::runs::{Call, Runs, NAMES};
 use gukoremo::number::NAME_SIZE;
 use gukoremo::{raw, CatalogId, Counts, FileId, Outcome, SnapshotId, Uuid};
 

@@ -1,6 +1,6 @@
 //! The runs of a case as they are lent to a call, each between words that no call may touch.
 
-use crate::runs::{Runs, AREA, COUNTS};
+use cases::runs::{Runs, AREA, COUNTS};
 use gukoremo::{Counts, Outcome, Tables, TablesView};
 
 /// Words at either side of every run that is lent, which no call may touch.

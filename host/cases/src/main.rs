@@ -7,12 +7,10 @@
 
 mod calls;
 mod lending;
-mod lists;
-mod runs;
 
 use calls::Played;
-use lists::Folder;
-use runs::{Case, Runs};
+use cases::lists::Folder;
+use cases::runs::{self, Case};
 use std::collections::BTreeMap;
 use std::process::ExitCode;
 
@@ -43,7 +41,7 @@ fn play(folder: &Folder) -> ExitCode {
     let mut lines = 0;
     let mut differences = 0;
     for list in &folder.lists {
-        let mut case = Case::from(folder.kept_before(list));
+        let mut case = Case::from(runs::kept_before(folder, list));
         for line in &folder.lines[&list.name] {
             lines += 1;
             let Some(call) = case.take(line) else { continue };
@@ -82,18 +80,5 @@ fn report(folder: &Folder, tallies: &BTreeMap<u64, Tally>, lines: usize, differe
     match cases > 0 && agreed > 0 && differences == 0 {
         true => ExitCode::SUCCESS,
         false => ExitCode::FAILURE,
-    }
-}
-
-impl Folder {
-    /// The runs as the lines before a list leave them.
-    fn kept_before(&self, list: &lists::List) -> Runs {
-        let mut case = Case::from(Runs::default());
-        for before in &list.after {
-            for line in &self.lines[before] {
-                case.take(line);
-            }
-        }
-        case.kept
     }
 }

@@ -1,6 +1,6 @@
 //! The fourteen runs of a case, and what each line does to them: as Lines.antt has it.
 
-use crate::lists::Line;
+use crate::lists::{Folder, Line, List};
 use gukoremo::number::NAME_SIZE;
 use gukoremo::record::{
     ColumnRecord, DataFileRecord, DeleteFileRecord, ScheduledRecord, SchemaRecord, SnapshotRecord, StatisticsRecord, TableRecord,
@@ -128,4 +128,15 @@ fn write(run: &mut Vec<u64>, place: usize, words: &[u64]) {
     run.truncate(place);
     run.extend_from_slice(words);
     run.extend(tail);
+}
+
+/// The runs as the lines before a list leave them.
+pub fn kept_before(folder: &Folder, list: &List) -> Runs {
+    let mut case = Case::from(Runs::default());
+    for before in &list.after {
+        for line in &folder.lines[before] {
+            case.take(line);
+        }
+    }
+    case.kept
 }

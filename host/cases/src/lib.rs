@@ -1,0 +1,5 @@
+//! The cases of crates/ducklake/proofs/cases out of their files: the lists of lines, and the runs and calls that they are about.
+#![forbid(unsafe_code)]
+
+pub mod lists;
+pub mod runs;

@@ -1,0 +1,58 @@
+//! The compiled calls against the second implementation, against written lists, and against the published queries.
+#![forbid(unsafe_code)]
+
+mod arguments;
+mod bench;
+mod catalogue;
+mod conformance;
+mod damage;
+mod from_cases;
+mod fuzz;
+mod limits;
+mod play;
+mod proved;
+mod published;
+mod random;
+mod runs;
+mod script;
+mod shrink;
+mod sqlite;
+mod step;
+mod unmarked;
+
+use std::process::ExitCode;
+
+const USAGE: &str = "usage:
+  differ fuzz COUNT [SEED]       so many random calls and damaged tables, and more; a find is printed as a list
+  differ bounded COUNT SEED      the same with tables at the limits, and every number that a call can give has to be met
+  differ unmarked                the cases of the diary session that are not proved
+  differ write CASES FOLDER      the lists of conformance/, from the folder of the proved cases and from dice
+  differ play PATH               a list, or a folder of them, against both
+  differ published COUNT         the published queries on SQLite, for so many catalogues by dice
+  differ bench [CALL ..]         times of the calls, as ratios";
+
+fn main() -> ExitCode {
+    let arguments: Vec<String> = std::env::args().skip(1).collect();
+    let words: Vec<&str> = arguments.iter().map(String::as_str).collect();
+    let done = match words[..] {
+        ["fuzz", count] => fuzz::run(count, None),
+        ["fuzz", count, seed] => fuzz::run(count, Some(seed)),
+        ["bounded", count, seed] => fuzz::bounded(count, seed),
+        ["unmarked"] => unmarked::run(),
+        ["write", cases, folder] => conformance::write(cases, folder),
+        ["play", path] => conformance::check(path),
+        ["published", count] => published::run(count),
+        ["bench", ref calls @ ..] => bench::run(calls),
+        _ => Err(USAGE.to_string()),
+    };
+    match done {
+        Ok(said) => {
+            println!("{said}");
+            ExitCode::SUCCESS
+        }
+        Err(how) => {
+            println!("{how}");
+            ExitCode::FAILURE
+        }
+    }
+}

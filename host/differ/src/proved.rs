@@ -1,0 +1,246 @@
+//! The compiled calls on tables of their own, each run lent between words that no call may touch.
+
+use crate::catalogue::Catalogue;
+use crate::runs::FIRST_NAMES;
+use gukoremo::{raw, CatalogId, FileId, SnapshotId, Tables, TablesView, Uuid};
+use second::{Call, Counts, Outcome, Reading};
+
+const MARGIN: usize = 4;
+const MARGIN_WORD: u64 = 0xa5a5_a5a5_a5a5_a5a5;
+const MARGIN_BYTE: u8 = 0xa5;
+
+/// A run between its margins.
+#[derive(Clone)]
+struct Lent<W> {
+    words: Vec<W>,
+    margin: W,
+}
+
+impl<W: Copy + PartialEq> Lent<W> {
+    fn new(length: usize, fill: W, margin: W) -> Lent<W> {
+        let mut words = vec![margin; length + 2 * MARGIN];
+        words[MARGIN..MARGIN + length].fill(fill);
+        Lent { words, margin }
+    }
+
+    fn of(run: &[W], margin: W) -> Lent<W> {
+        Lent { words: [&[margin; MARGIN], run, &[margin; MARGIN]].concat(), margin }
+    }
+
+    fn run(&self) -> &[W] {
+        &self.words[MARGIN..self.words.len() - MARGIN]
+    }
+
+    fn run_mut(&mut self) -> &mut [W] {
+        let end = self.words.len() - MARGIN;
+        &mut self.words[MARGIN..end]
+    }
+
+    fn margins_hold(&self) -> bool {
+        let (front, back) = (&self.words[..MARGIN], &self.words[self.words.len() - MARGIN..]);
+        front.iter().chain(back).all(|word| *word == self.margin)
+    }
+}
+
+#[derive(Clone)]
+pub struct Proved {
+    words: [Lent<u64>; 9],
+    names: [Lent<u8>; 3],
+    counts: Counts,
+    /// Whether no call has written beside a run or beside its area.
+    margins_hold: bool,
+}
+
+impl Default for Proved {
+    fn default() -> Proved {
+        Proved {
+            words: std::array::from_fn(|_| Lent::new(0, 0, MARGIN_WORD)),
+            names: std::array::from_fn(|_| Lent::new(0, 0, MARGIN_BYTE)),
+            counts: Counts::default(),
+            margins_hold: true,
+        }
+    }
+}
+
+impl Proved {
+    pub fn words(&self, run: usize) -> &[u64] {
+        self.words[run].run()
+    }
+
+    pub fn bytes(&self, run: usize) -> &[u8] {
+        self.names[run - FIRST_NAMES].run()
+    }
+
+    pub fn margins_hold(&self) -> bool {
+        self.margins_hold
+    }
+
+    fn tables(&mut self) -> Tables<'_> {
+        let [snapshots, schemas, tables, columns, data_files, delete_files, positions, statistics, scheduled] =
+            self.words.each_mut().map(Lent::run_mut);
+        let [schema_names, table_names, column_names] = self.names.each_mut().map(Lent::run_mut);
+        Tables {
+            snapshots,
+            schemas,
+            schema_names,
+            tables,
+            table_names,
+            columns,
+            column_names,
+            data_files,
+            delete_files,
+            positions,
+            statistics,
+            scheduled,
+        }
+    }
+
+    fn view(&self) -> TablesView<'_> {
+        let [snapshots, schemas, tables, columns, data_files, delete_files, positions, statistics, scheduled] = self.words.each_ref().map(Lent::run);
+        let [schema_names, table_names, column_names] = self.names.each_ref().map(Lent::run);
+        TablesView {
+            snapshots,
+            schemas,
+            schema_names,
+            tables,
+            table_names,
+            columns,
+            column_names,
+            data_files,
+            delete_files,
+            positions,
+            statistics,
+            scheduled,
+        }
+    }
+
+    /// The answer area lent between margins for a call, and given back as it was left.
+    fn on_area(&mut self, area: &mut [u64], call: impl FnOnce(&mut Self, &mut [u64]) -> gukoremo::Outcome) -> Outcome {
+        let mut lent = Lent::of(area, MARGIN_WORD);
+        let outcome = call(self, lent.run_mut());
+        area.copy_from_slice(lent.run());
+        self.margins_hold = self.margins_hold && lent.margins_hold();
+        outcome_of(outcome)
+    }
+}
+
+impl Catalogue for Proved {
+    fn lend(&mut self, run: usize, length: usize, fill: u64) {
+        match run {
+            0..FIRST_NAMES => self.words[run] = Lent::new(length, fill, MARGIN_WORD),
+            _ => self.names[run - FIRST_NAMES] = Lent::new(length, fill as u8, MARGIN_BYTE),
+        }
+    }
+
+    fn set(&mut self, run: usize, index: usize, value: u64) {
+        match run {
+            0..FIRST_NAMES => {
+                if let Some(word) = self.words[run].run_mut().get_mut(index) {
+                    *word = value;
+                }
+            }
+            _ => {
+                if let Some(byte) = self.names[run - FIRST_NAMES].run_mut().get_mut(index) {
+                    *byte = value as u8;
+                }
+            }
+        }
+    }
+
+    fn set_counts(&mut self, counts: Counts) {
+        self.counts = counts;
+    }
+
+    fn perform(&mut self, call: &Call, area: &mut [u64]) -> Outcome {
+        let counts = counts_to(&self.counts);
+        let given = self.on_area(area, |this, area| {
+            let lent = this.tables();
+            match call {
+                Call::Fresh { time } => raw::fresh(lent, counts, *time, area),
+                Call::CreateSchema { time, name } => raw::create_schema(lent, counts, *time, name, area),
+                Call::DropSchema { time, schema } => raw::drop_schema(lent, counts, *time, CatalogId(*schema), area),
+                Call::CreateTable { time, schema, name, columns, column_names } => {
+                    raw::create_table(lent, counts, *time, CatalogId(*schema), name, columns, column_names, area)
+                }
+                Call::DropTable { time, table } => raw::drop_table(lent, counts, *time, CatalogId(*table), area),
+                Call::Insert { time, table, record_count, uuid, statistics } => {
+                    raw::insert(lent, counts, *time, CatalogId(*table), *record_count, uuid_of(*uuid), statistics, area)
+                }
+                Call::Delete { time, data_file, uuid, positions } => {
+                    raw::delete(lent, counts, *time, FileId(*data_file), uuid_of(*uuid), positions, area)
+                }
+                Call::Expire { ids, time } => raw::expire(lent, counts, ids, *time, area),
+                Call::Cleanup { t } => raw::cleanup(lent, counts, *t, area),
+            }
+        });
+        let margins_hold = self.words.iter().all(Lent::margins_hold) && self.names.iter().all(Lent::margins_hold);
+        self.margins_hold = self.margins_hold && margins_hold;
+        self.counts = given.counts;
+        given
+    }
+
+    fn read(&mut self, reading: &Reading, area: &mut [u64]) -> Outcome {
+        let counts = counts_to(&self.counts);
+        self.on_area(area, |this, area| {
+            let lent = this.view();
+            match reading {
+                Reading::Schemas { snapshot } => raw::list_schemas(lent, counts, SnapshotId(*snapshot), area),
+                Reading::Tables { snapshot, schema } => raw::list_tables(lent, counts, SnapshotId(*snapshot), CatalogId(*schema), area),
+                Reading::Columns { snapshot, table } => raw::list_columns(lent, counts, SnapshotId(*snapshot), CatalogId(*table), area),
+                Reading::TableByName { snapshot, schema, name } => {
+                    raw::table_by_name(lent, counts, SnapshotId(*snapshot), CatalogId(*schema), name, area)
+                }
+                Reading::Files { snapshot, table } => raw::list_files(lent, counts, SnapshotId(*snapshot), CatalogId(*table), area),
+                Reading::FilteredFiles { snapshot, table, column, scalar } => {
+                    raw::list_filtered_files(lent, counts, SnapshotId(*snapshot), CatalogId(*table), *column, *scalar as u64, area)
+                }
+                Reading::Rows { snapshot, table } => raw::list_rows(lent, counts, SnapshotId(*snapshot), CatalogId(*table), area),
+                Reading::ByTime { t } => raw::snapshot_by_time(lent, counts, *t, area),
+                Reading::FindFile { id } => raw::copy_file(lent, counts, FileId(*id), area),
+            }
+        })
+    }
+
+    fn counts(&self) -> Counts {
+        self.counts
+    }
+
+    fn each_word(&self, take: &mut dyn FnMut(u64)) {
+        self.words.iter().flat_map(Lent::run).for_each(|word| take(*word));
+        self.names.iter().flat_map(Lent::run).for_each(|byte| take(u64::from(*byte)));
+    }
+}
+
+fn uuid_of((high, low): (u64, u64)) -> Uuid {
+    Uuid { high, low }
+}
+
+fn counts_to(c: &Counts) -> gukoremo::Counts {
+    gukoremo::Counts {
+        snapshots: c.snapshots,
+        schemas: c.schemas,
+        tables: c.tables,
+        columns: c.columns,
+        data_files: c.data_files,
+        delete_files: c.delete_files,
+        positions: c.positions,
+        statistics: c.statistics,
+        scheduled: c.scheduled,
+    }
+}
+
+fn outcome_of(given: gukoremo::Outcome) -> Outcome {
+    let c = given.counts;
+    let counts = Counts {
+        snapshots: c.snapshots,
+        schemas: c.schemas,
+        tables: c.tables,
+        columns: c.columns,
+        data_files: c.data_files,
+        delete_files: c.delete_files,
+        positions: c.positions,
+        statistics: c.statistics,
+        scheduled: c.scheduled,
+    };
+    Outcome { number: given.number, place: given.place, length: given.length, counts }
+}

@@ -1,0 +1,270 @@
+//! The commands that change a catalogue: read under the lock, one call, written beside and put in place, and only then said.
+
+use crate::ask::{self, timed};
+use crate::failure::{code, Failure};
+use crate::file::{Lake, Writing};
+use crate::list::{Cell, Form, List, Said};
+use crate::readings::form;
+use crate::records;
+use crate::refused::{ranges, refuse, Asked};
+use crate::runs;
+use crate::values::columns::{type_name, Column};
+use crate::values::names::{Reference, TableReference};
+use crate::values::statistics::{self, Statistics};
+use crate::values::{times, uuids};
+use clap::ArgMatches;
+use gukoremo::record::ColumnRecord;
+use gukoremo::{Catalog, CatalogId, FileId, NewColumn, NewStatistics, OwnedTables, SnapshotId, SnapshotRecord, Uuid};
+use std::path::PathBuf;
+use std::time::Duration;
+
+pub fn run(name: &str, given: &ArgMatches) -> Result<u8, Failure> {
+    if name == "init" {
+        return init(given);
+    }
+    if name == "room" && given.get_one::<u64>("records").is_none() {
+        return show_room(&crate::file::read(path(given))?, form(given));
+    }
+    let (writing, lake) = Writing::open(path(given), wait(given))?;
+    match name {
+        "room" => make_room(&writing, lake, given),
+        "expire" => expire(&writing, lake, given),
+        "cleanup" => cleanup(&writing, lake, given),
+        _ => commit(name, &writing, lake, given),
+    }
+}
+
+fn path(given: &ArgMatches) -> &PathBuf {
+    value(given, "file")
+}
+
+fn wait(given: &ArgMatches) -> Duration {
+    Duration::from_secs(*value::<u64>(given, "wait"))
+}
+
+/// A value that the command's definition makes sure of.
+fn value<'a, Value: Clone + Send + Sync + 'static>(given: &'a ArgMatches, name: &str) -> &'a Value {
+    given.get_one(name).expect("required, or with a default")
+}
+
+fn time(given: &ArgMatches) -> u64 {
+    given.get_one("time").copied().unwrap_or_else(times::now)
+}
+
+fn init(given: &ArgMatches) -> Result<u8, Failure> {
+    let writing = Writing::create(path(given), wait(given))?;
+    let places = given.get_one::<u64>("records").map_or(gukoremo::number::TABLE_LIMIT, |records| *records as usize);
+    let time = time(given);
+    let fresh = timed(|| Catalog::fresh(OwnedTables::with_room(runs::room(places)), time));
+    let lake = fresh.map_err(|refusal| Failure::new(code::REFUSED + refusal.number as u8, format!("{refusal}.")))?;
+    writing.replace(lake)?;
+    let sentence =
+        format!("{} is a catalogue with the schema main, snapshot 0, and places for {places} records of each kind.", path(given).display());
+    let fields = vec![("snapshot", Cell::Number(0)), ("time", Cell::Number(time)), ("records", Cell::Number(places as u64))];
+    Said { sentence, fields }.print(form(given))?;
+    Ok(0)
+}
+
+/// What a commit did, to be said once it is on the disk.
+struct Done {
+    snapshot: SnapshotRecord,
+    what: String,
+    fields: Vec<(&'static str, Cell)>,
+}
+
+fn commit(name: &str, writing: &Writing, mut lake: Lake, given: &ArgMatches) -> Result<u8, Failure> {
+    let done = match name {
+        "create-schema" => create_schema(&mut lake, given),
+        "create-table" => create_table(&mut lake, given),
+        "insert" => insert(&mut lake, given),
+        "delete" => delete(&mut lake, given),
+        "drop-table" => drop_table(&mut lake, given),
+        _ => drop_schema(&mut lake, given),
+    }?;
+    writing.replace(lake)?;
+    let mut fields = vec![("snapshot", Cell::Number(done.snapshot.id.0)), ("time", Cell::Number(done.snapshot.time))];
+    fields.extend(done.fields);
+    Said { sentence: format!("snapshot {}: {}", done.snapshot.id.0, done.what), fields }.print(form(given))?;
+    Ok(0)
+}
+
+/// The latest snapshot: what a commit's names are of.
+fn latest(lake: &Lake) -> Result<SnapshotId, Failure> {
+    ask::by_time(lake, u64::MAX)
+}
+
+fn create_schema(lake: &mut Lake, given: &ArgMatches) -> Result<Done, Failure> {
+    let (name, time): (&String, u64) = (value(given, "name"), time(given));
+    let made = timed(|| lake.create_schema(time, name));
+    let asked = Asked { time: Some(time), name, thing: Some(format!("schema {name}")), ..Asked::default() };
+    let snapshot = made.map_err(|refusal| refuse(refusal, lake, &asked))?;
+    let id = snapshot.object.0;
+    Ok(Done { snapshot, what: format!("schema {name}, id {id}"), fields: vec![("schema", Cell::Number(id))] })
+}
+
+fn drop_schema(lake: &mut Lake, given: &ArgMatches) -> Result<Done, Failure> {
+    let (reference, time): (&Reference, u64) = (value(given, "schema"), time(given));
+    let at = latest(lake)?;
+    let schema = ask::schema_id(lake, at, reference)?;
+    let made = timed(|| lake.drop_schema(time, schema));
+    let asked = Asked { time: Some(time), ..Asked::of(at, format!("schema {reference}")) };
+    let snapshot = made.map_err(|refusal| refuse(refusal, lake, &asked))?;
+    Ok(Done { snapshot, what: format!("schema {reference} dropped"), fields: vec![("schema", Cell::Number(schema.0))] })
+}
+
+fn create_table(lake: &mut Lake, given: &ArgMatches) -> Result<Done, Failure> {
+    let (reference, name): &(Reference, String) = value(given, "name");
+    let columns: Vec<Column> = given.get_many::<Column>("columns").unwrap_or_default().cloned().collect();
+    let time = time(given);
+    let at = latest(lake)?;
+    let schema = ask::schema_id(lake, at, reference)?;
+    let new: Vec<NewColumn<'_>> =
+        columns.iter().map(|column| NewColumn { name: &column.name, column_type: column.column_type, nulls_allowed: column.nulls_allowed }).collect();
+    let made = timed(|| lake.create_table(time, schema, name, &new));
+    let column_names = columns.iter().map(|column| column.name.as_str()).collect();
+    let asked = |thing: String| Asked { time: Some(time), name, column_names, ..Asked::of(at, thing) };
+    let snapshot = made.map_err(|refusal| {
+        // 6 is about the schema, 10 about the table
+        let about_schema = refusal.number == gukoremo::outcome::NOT_LIVE;
+        let thing = if about_schema { format!("schema {reference}") } else { format!("table {reference}.{name}") };
+        refuse(refusal, lake, &asked(thing))
+    })?;
+    let id = snapshot.object.0;
+    Ok(Done { snapshot, what: format!("table {reference}.{name}, id {id}"), fields: vec![("table", Cell::Number(id))] })
+}
+
+fn drop_table(lake: &mut Lake, given: &ArgMatches) -> Result<Done, Failure> {
+    let (reference, time): (&TableReference, u64) = (value(given, "table"), time(given));
+    let at = latest(lake)?;
+    let table = ask::table_id(lake, at, reference)?;
+    let made = timed(|| lake.drop_table(time, table));
+    let asked = Asked { time: Some(time), ..Asked::of(at, format!("table {reference}")) };
+    let snapshot = made.map_err(|refusal| refuse(refusal, lake, &asked))?;
+    Ok(Done { snapshot, what: format!("table {reference} dropped"), fields: vec![("table", Cell::Number(table.0))] })
+}
+
+/// The given UUID, or a new one.
+fn uuid(given: &ArgMatches) -> Result<Uuid, Failure> {
+    match given.get_one("uuid") {
+        Some(uuid) => Ok(*uuid),
+        None => uuids::make().map_err(|error| Failure::new(code::IO, "No UUID could be made.").why(format!("the system says: {error}."))),
+    }
+}
+
+fn insert(lake: &mut Lake, given: &ArgMatches) -> Result<Done, Failure> {
+    let (reference, rows, time): (&TableReference, u64, u64) = (value(given, "table"), *value(given, "rows"), time(given));
+    let uuid = uuid(given)?;
+    let words = given.get_many::<String>("statistics").unwrap_or_default().map(String::as_str);
+    let statistics =
+        statistics::parse_all(words).map_err(|why| Failure::new(code::USAGE, "The statistics are not understood.").why(format!("{why}.")))?;
+    let at = latest(lake)?;
+    let table = ask::table_id(lake, at, reference)?;
+    let new = new_statistics(lake, at, table, &statistics)?;
+    let made = timed(|| lake.insert(time, table, rows, uuid, &new));
+    let snapshot = made.map_err(|refusal| {
+        let columns = columns(lake, at, table);
+        refuse(refusal, lake, &Asked { time: Some(time), rows, uuid: Some(uuid), columns, ..Asked::of(at, format!("table {reference}")) })
+    })?;
+    let file = snapshot.next_file_id.0.saturating_sub(1);
+    let what = format!("file {file} of {rows} rows in {reference}, {}", uuid.path());
+    Ok(Done { snapshot, what, fields: file_fields(table, file, uuid) })
+}
+
+/// By ascending column id, as the call asks for; the words of the command may stand in any order.
+fn new_statistics(lake: &Lake, at: SnapshotId, table: CatalogId, all: &[Statistics]) -> Result<Vec<NewStatistics>, Failure> {
+    let of_column = |one: &Statistics| {
+        let column = ask::column_id(lake, at, table, &one.column)?;
+        Ok(NewStatistics { column, null_count: one.nulls, min: one.min, max: one.max })
+    };
+    let mut new: Vec<NewStatistics> = all.iter().map(of_column).collect::<Result<_, Failure>>()?;
+    new.sort_by_key(|one| one.column);
+    Ok(new)
+}
+
+/// The columns of a table, as they are written.
+fn columns(lake: &Lake, at: SnapshotId, table: CatalogId) -> Vec<String> {
+    let live = |column: &ColumnRecord| column.table == table && records::live(column.begin, column.end, at);
+    let mark = |column: &ColumnRecord| if column.nulls_allowed == 1 { "?" } else { "" };
+    let columns = records::columns(lake).filter(|(column, _)| live(column));
+    columns.map(|(column, name)| format!("{name}:{}{}", type_name(column.type_code), mark(&column))).collect()
+}
+
+fn delete(lake: &mut Lake, given: &ArgMatches) -> Result<Done, Failure> {
+    let (file, positions, time): (FileId, &Vec<u64>, u64) = (FileId(*value(given, "id")), value(given, "positions"), time(given));
+    let uuid = uuid(given)?;
+    let made = timed(|| lake.delete(time, file, uuid, positions));
+    let snapshot = made.map_err(|refusal| {
+        let at = records::latest(lake).map_or(SnapshotId(0), |snapshot| snapshot.id);
+        let asked = Asked { time: Some(time), uuid: Some(uuid), file: Some(file), list: positions, ..Asked::of(at, format!("data file {}", file.0)) };
+        refuse(refusal, lake, &asked)
+    })?;
+    let new = snapshot.next_file_id.0.saturating_sub(1);
+    let what = format!("delete file {new} of file {}, {} more deleted, {}", file.0, positions.len(), uuid.path());
+    Ok(Done { snapshot, what, fields: file_fields(snapshot.object, new, uuid) })
+}
+
+fn file_fields(table: CatalogId, file: u64, uuid: Uuid) -> Vec<(&'static str, Cell)> {
+    vec![("table", Cell::Number(table.0)), ("file", Cell::Number(file)), ("uuid", Cell::Text(uuids::show(uuid))), ("path", Cell::Text(uuid.path()))]
+}
+
+fn expire(writing: &Writing, mut lake: Lake, given: &ArgMatches) -> Result<u8, Failure> {
+    let (ids, time): (&Vec<u64>, u64) = (value(given, "snapshots"), time(given));
+    let before = records::scheduled(&lake).count();
+    let snapshots: Vec<SnapshotId> = ids.iter().map(|id| SnapshotId(*id)).collect();
+    timed(|| lake.expire(&snapshots, time)).map_err(|refusal| refuse(refusal, &lake, &Asked { list: ids, ..Asked::default() }))?;
+    let scheduled: Vec<u64> = records::scheduled(&lake).skip(before).map(|file| file.file.0).collect();
+    writing.replace(lake)?;
+    let files = if scheduled.is_empty() { "no file is scheduled".to_string() } else { format!("files scheduled: {}", ranges(&scheduled)) };
+    let sentence = format!("expired {}; {files}", ranges(ids));
+    let fields = vec![("expired", Cell::Number(ids.len() as u64)), ("time", Cell::Number(time)), ("scheduled", Cell::Number(scheduled.len() as u64))];
+    Said { sentence, fields }.print(form(given))?;
+    Ok(0)
+}
+
+/// The list is out before the catalogue forgets the files: whatever happens in between, no file is forgotten that was not handed out.
+fn cleanup(writing: &Writing, mut lake: Lake, given: &ArgMatches) -> Result<u8, Failure> {
+    let before = given.get_one("before").copied().unwrap_or_else(times::now);
+    let handed = timed(|| lake.cleanup(before)).map_err(|refusal| refuse(refusal, &lake, &Asked::default()))?;
+    let prepared = writing.prepare(lake)?;
+    let mut list = List::new(&["file", "path"]);
+    list.rows = handed.iter().map(|file| vec![Cell::Number(file.file.0), Cell::Text(file.uuid.path())]).collect();
+    list.print(form(given)).map_err(|failure| {
+        let what = "The list could not be written, so the files are still scheduled.".to_string();
+        Failure { code: code::IO, what, ..failure }
+    })?;
+    prepared.put()?;
+    Ok(0)
+}
+
+fn show_room(lake: &Lake, form: Form) -> Result<u8, Failure> {
+    // refused where the tables are not sound
+    latest(lake)?;
+    let (used, places) = (runs::words_of(lake.counts()), runs::places(lake.view()));
+    let mut list = List::new(&["table", "used", "places"]);
+    let row = |at: usize| vec![Cell::Text(runs::TABLES[at].to_string()), Cell::Number(used[at] as u64), Cell::Number(places[at] as u64)];
+    list.rows = (0..runs::TABLES.len()).map(row).collect();
+    list.print(form)?;
+    Ok(0)
+}
+
+fn make_room(writing: &Writing, lake: Lake, given: &ArgMatches) -> Result<u8, Failure> {
+    latest(&lake)?;
+    let places = *value::<u64>(given, "records") as usize;
+    let (used, asked) = (runs::words_of(lake.counts()), runs::words_of(runs::room(places)));
+    if let Some(at) = (0..used.len()).find(|at| used[*at] > asked[*at]) {
+        return Err(Failure::new(code::USAGE, "There is less room than is used, and nothing was done.")
+            .why(format!("the catalogue uses {} {}, and {places} records of each kind are room for {}.", used[at], runs::TABLES[at], asked[at]))
+            .advice("give a higher --records, or expire snapshots first."));
+    }
+    let (mut tables, counts) = lake.into_parts();
+    let lengths = OwnedTables::with_room(runs::room(places));
+    for (run, length) in runs::all(&mut tables).into_iter().zip(runs::views(&lengths)) {
+        match (run, length) {
+            (runs::Run::Words(words), runs::RunView::Words(length)) => words.resize(length.len(), 0),
+            (runs::Run::Bytes(bytes), runs::RunView::Bytes(length)) => bytes.resize(length.len(), 0),
+            _ => {}
+        }
+    }
+    writing.replace(Catalog::resume(tables, counts))?;
+    show_room(&crate::file::read(path(given))?, form(given))
+}

@@ -1,0 +1,265 @@
+//! `export`: the catalogue as a DuckLake 0.3 catalogue in SQLite. Each table is filled as document 000 describes it; what the catalogue does not hold, such as
+//! the size of a file in bytes, is NULL, and tables of what it leaves outside are empty.
+
+use crate::ask;
+use crate::failure::{code, Failure};
+use crate::file::{self, Lake};
+use crate::list::output;
+use crate::records;
+use crate::values::columns::type_name;
+use crate::values::times;
+use clap::ArgMatches;
+use gukoremo::number::ABSENT;
+use gukoremo::record::{self, StatisticsRecord};
+use gukoremo::{CatalogId, SnapshotRecord};
+use rusqlite::{params, Connection, Transaction};
+use std::collections::BTreeMap;
+use std::fs;
+use std::path::{Path, PathBuf};
+
+const SCHEMA: &str = include_str!("schema.sql");
+
+pub fn run(given: &ArgMatches) -> Result<u8, Failure> {
+    let lake = file::read(given.get_one::<PathBuf>("file").expect("required"))?;
+    ask::by_time(&lake, u64::MAX)?;
+    let out: &PathBuf = given.get_one("out").expect("required");
+    let data_path: &String = given.get_one("data-path").expect("a default");
+    if !data_path.ends_with('/') {
+        return Err(
+            Failure::new(code::USAGE, format!("The data path '{data_path}' does not end in /.")).advice("put a / at its end, as document 000 asks.")
+        );
+    }
+    if out.symlink_metadata().is_ok() {
+        return Err(Failure::new(code::EXISTS, format!("{} is there already, and was left as it is.", out.display()))
+            .advice("give another path, or move that file away first."));
+    }
+    write_whole(&lake, out, data_path)?;
+    output(|written| writeln!(written, "{} is a DuckLake 0.3 catalogue in SQLite.", out.display()))?;
+    Ok(0)
+}
+
+/// Written beside and renamed, so that a file of that name is whole.
+fn write_whole(lake: &Lake, out: &Path, data_path: &str) -> Result<(), Failure> {
+    let mut new = out.as_os_str().to_owned();
+    new.push(".new");
+    let new = PathBuf::from(new);
+    let _ = fs::remove_file(&new);
+    let done = fill(lake, &new, data_path)
+        .map_err(|error| Failure::new(code::IO, format!("{} could not be written.", out.display())).why(format!("SQLite says: {error}.")));
+    let done = done.and_then(|()| fs::rename(&new, out).map_err(|error| Failure::io(out, "written", error)));
+    if done.is_err() {
+        let _ = fs::remove_file(&new);
+    }
+    done
+}
+
+fn fill(lake: &Lake, path: &Path, data_path: &str) -> rusqlite::Result<()> {
+    let mut connection = Connection::open(path)?;
+    let into = connection.transaction()?;
+    into.execute_batch(SCHEMA)?;
+    metadata(&into, data_path)?;
+    snapshots(lake, &into)?;
+    schemas(lake, &into)?;
+    tables(lake, &into)?;
+    files(lake, &into)?;
+    statistics(lake, &into)?;
+    table_statistics(lake, &into)?;
+    into.commit()?;
+    connection.close().map_err(|(_, error)| error)
+}
+
+/// Ids are at most 2^62, so each is a BIGINT.
+fn id(word: u64) -> i64 {
+    word as i64
+}
+
+/// An end that is not set is NULL.
+fn end(word: u64) -> Option<i64> {
+    (word != ABSENT).then_some(word as i64)
+}
+
+fn timestamp(time: u64) -> String {
+    times::show(time, ' ', "+00")
+}
+
+/// "a persistent identifier", which the catalogue does not hold: one of version 8, made of the sort of the object and its id, so that exports agree.
+fn uuid(sort: u8, word: u64) -> String {
+    format!("00000000-0000-8000-80{sort:02x}-{:012x}", word & 0xffff_ffff_ffff)
+}
+
+fn metadata(into: &Transaction<'_>, data_path: &str) -> rusqlite::Result<()> {
+    let created_by = concat!("gukoremo ", env!("CARGO_PKG_VERSION"));
+    for (key, value) in [("version", "0.3"), ("created_by", created_by), ("data_path", data_path), ("encrypted", "false")] {
+        into.execute("INSERT INTO ducklake_metadata (key, value) VALUES (?, ?)", [key, value])?;
+    }
+    Ok(())
+}
+
+fn snapshots(lake: &Lake, into: &Transaction<'_>) -> rusqlite::Result<()> {
+    let mut insert = into.prepare("INSERT INTO ducklake_snapshot VALUES (?, ?, ?, ?, ?)")?;
+    let mut changes = into.prepare("INSERT INTO ducklake_snapshot_changes (snapshot_id, changes_made) VALUES (?, ?)")?;
+    let mut versions = into.prepare("INSERT INTO ducklake_schema_versions VALUES (?, ?)")?;
+    let names = Names::of(lake);
+    let mut version = None;
+    for one in records::snapshots(lake) {
+        let number = id(one.schema_version);
+        insert.execute(params![id(one.id.0), timestamp(one.time), number, id(one.next_catalog_id.0), id(one.next_file_id.0)])?;
+        changes.execute(params![id(one.id.0), names.change(&one)])?;
+        // a version begins at the first snapshot that has it and is retained
+        if version.replace(number) != Some(number) {
+            versions.execute(params![id(one.id.0), number])?;
+        }
+    }
+    Ok(())
+}
+
+/// The names that a change is described with.
+struct Names {
+    schemas: BTreeMap<u64, String>,
+    tables: BTreeMap<u64, (CatalogId, String)>,
+}
+
+impl Names {
+    fn of(lake: &Lake) -> Names {
+        Names {
+            schemas: records::schemas(lake).map(|(schema, name)| (schema.id.0, name)).collect(),
+            tables: records::tables(lake).map(|(table, name)| (table.id.0, (table.schema, name))).collect(),
+        }
+    }
+
+    fn schema(&self, id: u64) -> String {
+        self.schemas.get(&id).cloned().unwrap_or_else(|| id.to_string())
+    }
+
+    /// "Names are written in quoted-format"; a name has no quotes in it.
+    fn change(&self, snapshot: &SnapshotRecord) -> String {
+        let object = snapshot.object.0;
+        let kind = records::kind_name(snapshot.kind);
+        match snapshot.kind {
+            record::CREATED_SCHEMA => format!("{kind}:\"{}\"", self.schema(object)),
+            record::CREATED_TABLE => match self.tables.get(&object) {
+                Some((schema, name)) => format!("{kind}:\"{}\".\"{name}\"", self.schema(schema.0)),
+                None => format!("{kind}:\"{object}\""),
+            },
+            _ => format!("{kind}:{object}"),
+        }
+    }
+}
+
+/// "By default, this path is the name of the schema", relative to the data path.
+fn schemas(lake: &Lake, into: &Transaction<'_>) -> rusqlite::Result<()> {
+    let mut insert = into.prepare("INSERT INTO ducklake_schema VALUES (?, ?, ?, ?, ?, ?, ?)")?;
+    for (one, name) in records::schemas(lake) {
+        insert.execute(params![id(one.id.0), uuid(1, one.id.0), id(one.begin.0), end(one.end.0), name, format!("{name}/"), true])?;
+    }
+    Ok(())
+}
+
+fn tables(lake: &Lake, into: &Transaction<'_>) -> rusqlite::Result<()> {
+    let mut insert = into.prepare("INSERT INTO ducklake_table VALUES (?, ?, ?, ?, ?, ?, ?, ?)")?;
+    for (one, name) in records::tables(lake) {
+        let path = format!("{name}/");
+        insert.execute(params![id(one.id.0), uuid(2, one.id.0), id(one.begin.0), end(one.end.0), id(one.schema.0), name, path, true])?;
+    }
+    let mut insert = into.prepare(
+        "INSERT INTO ducklake_column (column_id, begin_snapshot, end_snapshot, table_id, column_order, column_name, column_type, nulls_allowed) \
+         VALUES (?, ?, ?, ?, ?, ?, ?, ?)",
+    )?;
+    for (one, name) in records::columns(lake) {
+        let (kind, nulls) = (type_name(one.type_code), one.nulls_allowed == 1);
+        insert.execute(params![id(one.id), id(one.begin.0), end(one.end.0), id(one.table.0), id(one.order), name, kind, nulls])?;
+    }
+    Ok(())
+}
+
+/// Files by ascending id, which is their order in the table.
+fn files(lake: &Lake, into: &Transaction<'_>) -> rusqlite::Result<()> {
+    let mut insert = into.prepare(
+        "INSERT INTO ducklake_data_file (data_file_id, table_id, begin_snapshot, end_snapshot, file_order, path, path_is_relative, file_format, \
+         record_count, row_id_start) \
+         VALUES (?, ?, ?, ?, ?, ?, true, 'parquet', ?, ?)",
+    )?;
+    for one in records::data_files(lake) {
+        let (own, rows, first) = (id(one.id.0), id(one.record_count), id(one.row_id_start.0));
+        insert.execute(params![own, id(one.table.0), id(one.begin.0), end(one.end.0), own, one.uuid.path(), rows, first])?;
+    }
+    let mut insert = into.prepare(
+        "INSERT INTO ducklake_delete_file (delete_file_id, table_id, begin_snapshot, end_snapshot, data_file_id, path, path_is_relative, format, delete_count) \
+         VALUES (?, ?, ?, ?, ?, ?, true, 'parquet', ?)",
+    )?;
+    for one in records::delete_files(lake) {
+        let (own, data_file, count) = (id(one.id.0), id(one.data_file.0), id(one.delete_count));
+        insert.execute(params![own, id(one.table.0), id(one.begin.0), end(one.end.0), data_file, one.uuid.path(), count])?;
+    }
+    // a scheduled record has no table, so its path is the file's name alone
+    let mut insert = into.prepare("INSERT INTO ducklake_files_scheduled_for_deletion VALUES (?, ?, true, ?)")?;
+    for one in records::scheduled(lake) {
+        insert.execute(params![id(one.file.0), one.uuid.path(), timestamp(one.schedule_start)])?;
+    }
+    Ok(())
+}
+
+/// A bound, "encoded as a string"; none where it is missing.
+fn bound(flag: u64, word: u64) -> Option<String> {
+    (flag == 1).then(|| (word as i64).to_string())
+}
+
+fn statistics(lake: &Lake, into: &Transaction<'_>) -> rusqlite::Result<()> {
+    let of_file: BTreeMap<u64, (u64, u64)> = records::data_files(lake).map(|file| (file.id.0, (file.table.0, file.record_count))).collect();
+    let mut insert = into.prepare(
+        "INSERT INTO ducklake_file_column_stats (data_file_id, table_id, column_id, value_count, null_count, min_value, max_value) \
+         VALUES (?, ?, ?, ?, ?, ?, ?)",
+    )?;
+    for one in records::statistics(lake) {
+        let (table, rows) = of_file.get(&one.data_file.0).copied().unwrap_or((0, 0));
+        let (min, max) = (bound(one.has_min, one.min), bound(one.has_max, one.max));
+        insert.execute(params![id(one.data_file.0), id(table), id(one.column), id(rows), id(one.null_count), min, max])?;
+    }
+    Ok(())
+}
+
+/// What is known of a column over all its files on record.
+struct Over {
+    nulls: bool,
+    min: Option<i64>,
+    max: Option<i64>,
+}
+
+impl Over {
+    /// With one more file: a bound holds for all only where every file that has values gives one.
+    fn with(over: Option<Over>, one: &StatisticsRecord, rows: u64) -> Over {
+        let (min, max) = ((one.has_min == 1).then_some(one.min as i64), (one.has_max == 1).then_some(one.max as i64));
+        let empty = one.null_count == rows;
+        match over {
+            None => Over { nulls: one.null_count > 0, min, max },
+            Some(over) if empty => Over { nulls: true, ..over },
+            Some(over) => Over {
+                nulls: over.nulls || one.null_count > 0,
+                min: over.min.zip(min).map(|(known, new)| known.min(new)),
+                max: over.max.zip(max).map(|(known, new)| known.max(new)),
+            },
+        }
+    }
+}
+
+/// A table without an insert has no statistics: "If there are none, we need to use INSERT". Deletes leave them: they "are maintained as upper bounds".
+fn table_statistics(lake: &Lake, into: &Transaction<'_>) -> rusqlite::Result<()> {
+    let mut insert = into.prepare("INSERT INTO ducklake_table_stats (table_id, record_count, next_row_id) VALUES (?, ?, ?)")?;
+    for (one, _) in records::tables(lake).filter(|(table, _)| table.next_row_id.0 > 0) {
+        insert.execute([id(one.id.0), id(one.next_row_id.0), id(one.next_row_id.0)])?;
+    }
+    let of_file: BTreeMap<u64, (u64, u64)> = records::data_files(lake).map(|file| (file.id.0, (file.table.0, file.record_count))).collect();
+    let mut over: BTreeMap<(u64, u64), Option<Over>> = BTreeMap::new();
+    for one in records::statistics(lake) {
+        let (table, rows) = of_file.get(&one.data_file.0).copied().unwrap_or((0, 0));
+        let of_column = over.entry((table, one.column)).or_default();
+        *of_column = Some(Over::with(of_column.take(), &one, rows));
+    }
+    let mut insert =
+        into.prepare("INSERT INTO ducklake_table_column_stats (table_id, column_id, contains_null, min_value, max_value) VALUES (?, ?, ?, ?, ?)")?;
+    for ((table, column), over) in over.iter().filter_map(|(key, over)| Some((key, over.as_ref()?))) {
+        let text = |bound: Option<i64>| bound.map(|bound| bound.to_string());
+        insert.execute(params![id(*table), id(*column), over.nulls, text(over.min), text(over.max)])?;
+    }
+    Ok(())
+}

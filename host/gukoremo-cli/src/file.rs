@@ -1,0 +1,130 @@
+//! A catalogue in a file. A change is written beside it, synced, and renamed over it: whoever opens the file meets the old state or the new one, whole.
+
+use crate::failure::{code, Failure};
+use crate::format;
+use crate::lock::{self, Lock};
+use gukoremo::{Catalog, OwnedTables};
+use std::ffi::OsString;
+use std::fs::{self, File, OpenOptions};
+use std::io::{Read, Write};
+use std::path::{Path, PathBuf};
+use std::time::Duration;
+
+/// A catalogue in memory.
+pub type Lake = Catalog<OwnedTables>;
+
+/// The catalogue in a file, as it is at this moment. It needs no lock.
+pub fn read(path: &Path) -> Result<Lake, Failure> {
+    let failed = |error| Failure::io(path, "read", error);
+    let metadata = fs::metadata(path).map_err(failed)?;
+    if !metadata.is_file() {
+        return Err(Failure::new(code::DATA, format!("{} is no file.", path.display())).advice("give the path of a file that 'gukoremo init' made."));
+    }
+    let mut bytes = Vec::with_capacity(metadata.len().min(format::longest() as u64) as usize + 1);
+    // one byte more than a catalogue can have, so that a longer file is seen to be one
+    File::open(path).and_then(|file| file.take(format::longest() as u64 + 1).read_to_end(&mut bytes)).map_err(failed)?;
+    let (tables, counts) = format::decode(path, &bytes)?;
+    Ok(Catalog::resume(tables, counts))
+}
+
+/// The right to change a catalogue's file, held as long as this lives.
+#[derive(Debug)]
+pub struct Writing {
+    target: PathBuf,
+    _lock: Lock,
+}
+
+/// Beside a path: the same with this at its end.
+fn beside(path: &Path, ending: &str) -> PathBuf {
+    let mut name = OsString::from(path);
+    name.push(ending);
+    PathBuf::from(name)
+}
+
+impl Writing {
+    /// To change a catalogue that is there. A link is followed: its target is what is locked and replaced.
+    pub fn open(path: &Path, wait: Duration) -> Result<(Writing, Lake), Failure> {
+        let target = fs::canonicalize(path).map_err(|error| Failure::io(path, "opened", error))?;
+        // not a file, no catalogue: said before a lock is made beside it
+        read(path)?;
+        let lock = lock::take(&beside(&target, ".lock"), path, wait)?;
+        let lake = read(&target)?;
+        Ok((Writing { target, _lock: lock }, lake))
+    }
+
+    /// To make a catalogue where no file is.
+    pub fn create(path: &Path, wait: Duration) -> Result<Writing, Failure> {
+        let there = || {
+            Failure::new(code::EXISTS, format!("{} is there already, and was left as it is.", path.display()))
+                .advice("give another path, or move that file away first.")
+        };
+        if path.symlink_metadata().is_ok() {
+            return Err(there());
+        }
+        let lock = lock::take(&beside(path, ".lock"), path, wait)?;
+        match path.symlink_metadata() {
+            Ok(_) => Err(there()),
+            Err(_) => Ok(Writing { target: path.to_path_buf(), _lock: lock }),
+        }
+    }
+
+    /// Writes the catalogue beside its file and syncs it. The file itself is untouched until [`Prepared::put`].
+    pub fn prepare(&self, lake: Lake) -> Result<Prepared<'_>, Failure> {
+        let (tables, counts) = lake.into_parts();
+        let prepared = Prepared { writing: self, new: beside(&self.target, ".new"), done: false };
+        prepared.write(&format::encode(&tables, counts)).map_err(|error| {
+            let failure = Failure::io(&self.target, "changed, and is as it was", error);
+            Failure { code: code::IO, ..failure }
+        })?;
+        Ok(prepared)
+    }
+
+    /// Writes the catalogue beside its file, and puts it in the file's place.
+    pub fn replace(&self, lake: Lake) -> Result<(), Failure> {
+        self.prepare(lake)?.put()
+    }
+}
+
+/// A changed catalogue that lies beside its file. It is taken away again unless it is put in the file's place.
+pub struct Prepared<'a> {
+    writing: &'a Writing,
+    new: PathBuf,
+    done: bool,
+}
+
+impl Prepared<'_> {
+    fn write(&self, bytes: &[u8]) -> std::io::Result<()> {
+        // what a killed change has left; the lock is ours, so nobody is writing it
+        let _ = fs::remove_file(&self.new);
+        let mut file = OpenOptions::new().write(true).create_new(true).open(&self.new)?;
+        if let Ok(old) = fs::metadata(&self.writing.target) {
+            file.set_permissions(old.permissions())?;
+        }
+        file.write_all(bytes)?;
+        file.sync_all()
+    }
+
+    /// The new state takes the old one's place, in one step of the system, and the folder is synced.
+    pub fn put(mut self) -> Result<(), Failure> {
+        let target = &self.writing.target;
+        fs::rename(&self.new, target).map_err(|error| Failure { code: code::IO, ..Failure::io(target, "changed, and is as it was", error) })?;
+        self.done = true;
+        let folder = match target.parent() {
+            Some(folder) if !folder.as_os_str().is_empty() => folder,
+            _ => Path::new("."),
+        };
+        File::open(folder).and_then(|folder| folder.sync_all()).map_err(|error| {
+            Failure::new(code::IO, format!("{} is changed, but its folder could not be synced.", target.display()))
+                .why(format!("the system says: {error}. If the machine stops now, the file may be found as it was."))
+                .advice("look at the disk, and then at the catalogue with 'gukoremo snapshots'.")
+        })
+    }
+}
+
+impl Drop for Prepared<'_> {
+    fn drop(&mut self) {
+        if !self.done {
+            let _ = fs::remove_file(&self.new);
+        }
+    }
+}

@@ -1,0 +1,169 @@
+//! Answers: a list as a table for a terminal, as CSV or as JSON; a change as a sentence, or as one record of these.
+
+use crate::failure::Failure;
+use std::io::{self, Write};
+
+#[derive(Clone, Copy, Debug, PartialEq, Eq)]
+pub enum Form {
+    Terminal,
+    Csv,
+    Json,
+}
+
+#[derive(Clone, Debug, PartialEq, Eq)]
+pub enum Cell {
+    Number(u64),
+    Flag(bool),
+    Text(String),
+    Nothing,
+}
+
+impl Cell {
+    /// A number, or nothing where it is ABSENT.
+    pub fn end(word: u64) -> Cell {
+        if word == gukoremo::number::ABSENT {
+            Cell::Nothing
+        } else {
+            Cell::Number(word)
+        }
+    }
+
+    pub fn plain(&self) -> String {
+        match self {
+            Cell::Number(number) => number.to_string(),
+            Cell::Flag(flag) => flag.to_string(),
+            Cell::Text(text) => text.clone(),
+            Cell::Nothing => String::new(),
+        }
+    }
+
+    fn csv(&self) -> String {
+        let plain = self.plain();
+        match plain.contains([',', '"', '\n', '\r']) {
+            true => format!("\"{}\"", plain.replace('"', "\"\"")),
+            false => plain,
+        }
+    }
+
+    fn json(&self) -> String {
+        match self {
+            Cell::Text(text) => quoted(text),
+            Cell::Nothing => "null".to_string(),
+            _ => self.plain(),
+        }
+    }
+}
+
+/// A JSON string.
+fn quoted(text: &str) -> String {
+    let mut quoted = String::from("\"");
+    for character in text.chars() {
+        match character {
+            '"' => quoted.push_str("\\\""),
+            '\\' => quoted.push_str("\\\\"),
+            control if control < ' ' => quoted.push_str(&format!("\\u{:04x}", control as u32)),
+            other => quoted.push(other),
+        }
+    }
+    quoted.push('"');
+    quoted
+}
+
+pub struct List {
+    pub columns: Vec<&'static str>,
+    pub rows: Vec<Vec<Cell>>,
+}
+
+impl List {
+    pub fn new(columns: &[&'static str]) -> List {
+        List { columns: columns.to_vec(), rows: Vec::new() }
+    }
+
+    pub fn print(&self, form: Form) -> Result<(), Failure> {
+        output(|out| match form {
+            Form::Terminal => self.terminal(out),
+            Form::Csv => self.csv(out),
+            Form::Json => self.json(out),
+        })
+    }
+
+    fn csv(&self, out: &mut dyn Write) -> io::Result<()> {
+        writeln!(out, "{}", self.columns.join(","))?;
+        for row in &self.rows {
+            let cells: Vec<String> = row.iter().map(Cell::csv).collect();
+            writeln!(out, "{}", cells.join(","))?;
+        }
+        Ok(())
+    }
+
+    fn json(&self, out: &mut dyn Write) -> io::Result<()> {
+        writeln!(out, "[")?;
+        for (at, row) in self.rows.iter().enumerate() {
+            let comma = if at + 1 < self.rows.len() { "," } else { "" };
+            writeln!(out, "  {}{comma}", object(&self.columns, row))?;
+        }
+        writeln!(out, "]")
+    }
+
+    /// Columns as wide as what stands in them, numbers to the right.
+    fn terminal(&self, out: &mut dyn Write) -> io::Result<()> {
+        let shown: Vec<Vec<String>> = self.rows.iter().map(|row| row.iter().map(Cell::plain).collect()).collect();
+        let width = |at: usize| shown.iter().map(|row| row[at].chars().count()).chain([self.columns[at].len()]).max().unwrap_or(0);
+        let widths: Vec<usize> = (0..self.columns.len()).map(width).collect();
+        let right: Vec<bool> = (0..self.columns.len()).map(|at| self.rows.iter().any(|row| matches!(row[at], Cell::Number(_)))).collect();
+        let mut line = |cells: &[&str]| {
+            let mut text = String::new();
+            for (at, cell) in cells.iter().enumerate() {
+                let pad = " ".repeat(widths[at].saturating_sub(cell.chars().count()));
+                let (before, after) = if right[at] { (pad.as_str(), "") } else { ("", pad.as_str()) };
+                text.push_str(&format!("{before}{cell}{after}  "));
+            }
+            writeln!(out, "{}", text.trim_end())
+        };
+        line(&self.columns)?;
+        for row in &shown {
+            line(&row.iter().map(String::as_str).collect::<Vec<&str>>())?;
+        }
+        Ok(())
+    }
+}
+
+fn object(columns: &[&str], row: &[Cell]) -> String {
+    let fields: Vec<String> = columns.iter().zip(row).map(|(name, cell)| format!("{}: {}", quoted(name), cell.json())).collect();
+    format!("{{{}}}", fields.join(", "))
+}
+
+/// What a change says: a sentence for a terminal, its fields for a program.
+pub struct Said {
+    pub sentence: String,
+    pub fields: Vec<(&'static str, Cell)>,
+}
+
+impl Said {
+    pub fn print(&self, form: Form) -> Result<(), Failure> {
+        let (columns, row): (Vec<&'static str>, Vec<Cell>) = self.fields.iter().cloned().unzip();
+        match form {
+            Form::Terminal => output(|out| writeln!(out, "{}", self.sentence)),
+            Form::Csv => List { columns, rows: vec![row] }.print(form),
+            Form::Json => output(|out| writeln!(out, "{}", object(&columns, &row))),
+        }
+    }
+}
+
+/// Writes to the standard output, all of it or an error.
+pub fn output(write: impl FnOnce(&mut dyn Write) -> io::Result<()>) -> Result<(), Failure> {
+    let mut out = io::BufWriter::with_capacity(1 << 16, io::stdout().lock());
+    write(&mut out).and_then(|()| out.flush()).map_err(Failure::output)
+}
+
+#[cfg(test)]
+mod tests {
+    use super::{object, Cell};
+
+    #[test]
+    fn cells() {
+        assert_eq!(Cell::Text("a,\"b".to_string()).csv(), "\"a,\"\"b\"");
+        assert_eq!(Cell::Text("a\"\n".to_string()).json(), "\"a\\\"\\u000a\"");
+        assert_eq!(object(&["a", "b"], &[Cell::Number(1), Cell::end(u64::MAX)]), "{\"a\": 1, \"b\": null}");
+    }
+}

@@ -1,0 +1,211 @@
+//! The commands that read a catalogue.
+
+use crate::ask;
+use crate::failure::Failure;
+use crate::file::{self, Lake};
+use crate::list::{output, Cell, Form, List, Said};
+use crate::records;
+use crate::values::columns::type_name;
+use crate::values::names::{Reference, TableReference};
+use crate::values::{times, uuids};
+use clap::ArgMatches;
+use gukoremo::{CatalogId, DataFileRecord, DeleteFileRecord, FileId, Listed, SnapshotId, Uuid};
+use std::collections::HashMap;
+use std::path::PathBuf;
+
+pub fn form(given: &ArgMatches) -> Form {
+    match (given.get_flag("csv"), given.get_flag("json")) {
+        (true, _) => Form::Csv,
+        (_, true) => Form::Json,
+        _ => Form::Terminal,
+    }
+}
+
+pub fn run(name: &str, given: &ArgMatches) -> Result<u8, Failure> {
+    let lake = file::read(given.get_one::<PathBuf>("file").expect("required"))?;
+    let form = form(given);
+    match name {
+        "snapshots" => snapshots(&lake)?.print(form),
+        "schemas" => schemas(&lake, at(&lake, given)?)?.print(form),
+        "tables" => tables(&lake, given)?.print(form),
+        "columns" => columns(&lake, given)?.print(form),
+        "files" => files(&lake, given, form)?.print(form),
+        "rows" => rows(&lake, given, form),
+        "at" => snapshot_at(&lake, given)?.print(form),
+        "lookup" => lookup(&lake, FileId(*given.get_one("id").expect("required")))?.print(form),
+        _ => scheduled(&lake)?.print(form),
+    }?;
+    Ok(0)
+}
+
+fn at(lake: &Lake, given: &ArgMatches) -> Result<SnapshotId, Failure> {
+    ask::snapshot(lake, given.get_one("at").copied(), given.get_one("time").copied())
+}
+
+fn number(number: u64) -> Cell {
+    Cell::Number(number)
+}
+
+fn text(text: impl Into<String>) -> Cell {
+    Cell::Text(text.into())
+}
+
+fn snapshots(lake: &Lake) -> Result<List, Failure> {
+    // no reading lists them; this one refuses tables that are not sound
+    ask::by_time(lake, u64::MAX)?;
+    let mut list = List::new(&["snapshot", "time", "when", "change", "object", "schema_version"]);
+    for snapshot in records::snapshots(lake) {
+        list.rows.push(vec![
+            number(snapshot.id.0),
+            number(snapshot.time),
+            text(times::rfc(snapshot.time)),
+            text(records::kind_name(snapshot.kind)),
+            number(snapshot.object.0),
+            number(snapshot.schema_version),
+        ]);
+    }
+    Ok(list)
+}
+
+fn scheduled(lake: &Lake) -> Result<List, Failure> {
+    ask::by_time(lake, u64::MAX)?;
+    let mut list = List::new(&["file", "path", "schedule_start", "when"]);
+    for file in records::scheduled(lake) {
+        list.rows.push(vec![number(file.file.0), text(file.uuid.path()), number(file.schedule_start), text(times::rfc(file.schedule_start))]);
+    }
+    Ok(list)
+}
+
+fn schemas(lake: &Lake, at: SnapshotId) -> Result<List, Failure> {
+    let listed = ask::schemas(lake, at)?;
+    let known: HashMap<u64, (u64, u64, String)> =
+        records::schemas(lake).map(|(schema, name)| (schema.id.0, (schema.begin.0, schema.end.0, name))).collect();
+    let mut list = List::new(&["schema", "name", "begin", "end"]);
+    for (id, (begin, end, name)) in listed.iter().filter_map(|id| Some((id, known.get(&id.0)?))) {
+        list.rows.push(vec![number(id.0), text(name), number(*begin), Cell::end(*end)]);
+    }
+    Ok(list)
+}
+
+fn tables(lake: &Lake, given: &ArgMatches) -> Result<List, Failure> {
+    let at = at(lake, given)?;
+    let main = Reference::Name("main".to_string());
+    let schema = ask::schema_id(lake, at, given.get_one("schema").unwrap_or(&main))?;
+    let listed = ask::tables(lake, at, schema)?;
+    let known: HashMap<u64, _> = records::tables(lake).map(|(table, name)| (table.id.0, (table, name))).collect();
+    let mut list = List::new(&["table", "name", "begin", "end", "next_row"]);
+    for (table, name) in listed.iter().filter_map(|id| known.get(&id.0)) {
+        list.rows.push(vec![number(table.id.0), text(name), number(table.begin.0), Cell::end(table.end.0), number(table.next_row_id.0)]);
+    }
+    Ok(list)
+}
+
+/// The snapshot and the table of a reading.
+fn table(lake: &Lake, given: &ArgMatches) -> Result<(SnapshotId, CatalogId), Failure> {
+    let at = at(lake, given)?;
+    let reference: &TableReference = given.get_one("table").expect("required");
+    Ok((at, ask::table_id(lake, at, reference)?))
+}
+
+fn columns(lake: &Lake, given: &ArgMatches) -> Result<List, Failure> {
+    let (at, table) = table(lake, given)?;
+    let listed = ask::columns(lake, at, table)?;
+    let of_table = records::columns(lake).filter(|(column, _)| column.table == table);
+    let known: HashMap<u64, _> = of_table.map(|(column, name)| (column.id, (column, name))).collect();
+    let mut list = List::new(&["column", "name", "type", "nulls_allowed"]);
+    for (column, name) in listed.iter().filter_map(|id| known.get(id)) {
+        list.rows.push(vec![number(column.id), text(name), text(type_name(column.type_code)), Cell::Flag(column.nulls_allowed == 1)]);
+    }
+    Ok(list)
+}
+
+fn files(lake: &Lake, given: &ArgMatches, form: Form) -> Result<List, Failure> {
+    let (at, table) = table(lake, given)?;
+    let filter = match given.get_one::<(Reference, i64)>("where") {
+        None => None,
+        Some((column, scalar)) => Some((ask::column_id(lake, at, table, column)?, *scalar)),
+    };
+    Ok(file_list(lake, &ask::files(lake, at, table, filter)?, form))
+}
+
+/// In CSV the paths alone, as document 01 prints them.
+fn file_list(lake: &Lake, listed: &[Listed], form: Form) -> List {
+    let data: HashMap<u64, DataFileRecord> = records::data_files(lake).map(|file| (file.id.0, file)).collect();
+    let delete: HashMap<u64, DeleteFileRecord> = records::delete_files(lake).map(|file| (file.id.0, file)).collect();
+    let path = |uuid: Option<Uuid>| uuid.map_or(Cell::Nothing, |uuid| text(uuid.path()));
+    let mut list = match form {
+        Form::Csv => List::new(&["data_file", "delete_file"]),
+        _ => List::new(&["file", "rows", "first_row", "data_file", "deletes", "deleted", "delete_file"]),
+    };
+    for (pair, file) in listed.iter().filter_map(|pair| Some((pair, data.get(&pair.data_file.0)?))) {
+        let deletes = pair.delete_file.and_then(|id| delete.get(&id.0));
+        let paths = (path(Some(file.uuid)), path(deletes.map(|deletes| deletes.uuid)));
+        list.rows.push(match form {
+            Form::Csv => vec![paths.0, paths.1],
+            _ => vec![
+                number(file.id.0),
+                number(file.record_count),
+                number(file.row_id_start.0),
+                paths.0,
+                deletes.map_or(Cell::Nothing, |deletes| number(deletes.id.0)),
+                deletes.map_or(Cell::Nothing, |deletes| number(deletes.delete_count)),
+                paths.1,
+            ],
+        });
+    }
+    list
+}
+
+/// There can be millions, so they are written as they come.
+fn rows(lake: &Lake, given: &ArgMatches, form: Form) -> Result<(), Failure> {
+    let (at, table) = table(lake, given)?;
+    let rows = ask::rows(lake, at, table)?;
+    output(|out| {
+        match form {
+            Form::Json => {
+                write!(out, "[")?;
+                for (at, row) in rows.iter().enumerate() {
+                    write!(out, "{}{}", if at == 0 { "" } else { ", " }, row.0)?;
+                }
+                return writeln!(out, "]");
+            }
+            Form::Csv | Form::Terminal => writeln!(out, "row")?,
+        }
+        rows.iter().try_for_each(|row| writeln!(out, "{}", row.0))
+    })
+}
+
+fn snapshot_at(lake: &Lake, given: &ArgMatches) -> Result<Said, Failure> {
+    let time = *given.get_one::<u64>("time").expect("required");
+    let id = ask::by_time(lake, time)?;
+    let own = records::snapshots(lake).find(|snapshot| snapshot.id == id).map_or(0, |snapshot| snapshot.time);
+    Ok(Said {
+        sentence: format!("snapshot {}, of {own} ({})", id.0, times::rfc(own)),
+        fields: vec![("snapshot", number(id.0)), ("time", number(own))],
+    })
+}
+
+/// The record, a field to a line.
+fn lookup(lake: &Lake, id: FileId) -> Result<Said, Failure> {
+    let words = ask::lookup(lake, id)?;
+    let is_data_file = records::data_files(lake).any(|file| file.id == id);
+    let (kind, own, uuid) = if is_data_file {
+        let file = DataFileRecord::read(&words);
+        ("data_file", [("record_count", number(file.record_count)), ("row_id_start", number(file.row_id_start.0))], file.uuid)
+    } else {
+        let file = DeleteFileRecord::read(&words);
+        ("delete_file", [("data_file", number(file.data_file.0)), ("delete_count", number(file.delete_count))], file.uuid)
+    };
+    // the first words of both records are the same
+    let mut fields = vec![
+        ("kind", text(kind)),
+        ("id", number(words[DataFileRecord::ID])),
+        ("table", number(words[DataFileRecord::TABLE])),
+        ("begin", number(words[DataFileRecord::BEGIN])),
+        ("end", Cell::end(words[DataFileRecord::END])),
+    ];
+    fields.extend(own);
+    fields.extend([("uuid", text(uuids::show(uuid))), ("path", text(uuid.path()))]);
+    let lines: Vec<String> = fields.iter().map(|(name, cell)| format!("{name:<13} {}", cell.plain()).trim_end().to_string()).collect();
+    Ok(Said { sentence: lines.join("\n"), fields })
+}

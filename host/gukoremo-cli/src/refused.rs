@@ -1,0 +1,192 @@
+//! A refusal in full: which, why in this catalogue, and what to do.
+
+use crate::failure::{code, Failure};
+use crate::file::Lake;
+use crate::records;
+use crate::runs;
+use crate::values::{times, uuids};
+use gukoremo::number::{COLUMN_LIMIT, NAME_SIZE};
+use gukoremo::outcome as numbers;
+use gukoremo::{sentence, FileId, Refusal, SnapshotId, Uuid};
+
+/// What was asked, as far as a refusal can be about it.
+#[derive(Default)]
+pub struct Asked<'a> {
+    pub time: Option<u64>,
+    pub at: Option<SnapshotId>,
+    pub thing: Option<String>,
+    pub name: &'a str,
+    pub column_names: Vec<&'a str>,
+    pub rows: u64,
+    pub uuid: Option<Uuid>,
+    pub columns: Vec<String>,
+    pub file: Option<FileId>,
+    pub list: &'a [u64],
+}
+
+impl<'a> Asked<'a> {
+    pub fn at(at: SnapshotId) -> Asked<'a> {
+        Asked { at: Some(at), ..Asked::default() }
+    }
+
+    pub fn of(at: SnapshotId, thing: String) -> Asked<'a> {
+        Asked { at: Some(at), thing: Some(thing), ..Asked::default() }
+    }
+}
+
+/// The failure that a refusal is.
+pub fn refuse(refusal: Refusal, lake: &Lake, asked: &Asked<'_>) -> Failure {
+    let number = refusal.number.min(u64::from(u8::MAX - code::REFUSED)) as u8;
+    let (why, advice) = reason(refusal, lake, asked);
+    Failure::new(code::REFUSED + number, format!("refused with {}: {}.", refusal.number, sentence(refusal.number))).why(why).advice(advice)
+}
+
+fn reason(refusal: Refusal, lake: &Lake, asked: &Asked<'_>) -> (String, String) {
+    let latest = records::latest(lake);
+    let latest_id = latest.map_or(0, |snapshot| snapshot.id.0);
+    let thing = asked.thing.clone().unwrap_or_else(|| "it".to_string());
+    let (why, advice): (String, &str) = match refusal.number {
+        numbers::NOT_SOUND => (
+            "the tables in the file break a rule of 'Sound tables'.".to_string(),
+            "see with 'gukoremo check FILE' which rule and which record, and go back to a copy of the file.",
+        ),
+        numbers::NO_ROOM => (
+            format!("of the records that the file has room for these are used: {}.", fullness(lake)),
+            "free records with 'gukoremo expire', or make room with 'gukoremo room FILE --records N', up to 4096.",
+        ),
+        numbers::NUMBER_TOO_LARGE => (
+            "ids, row numbers and schema versions end there, and this change would count past it.".to_string(),
+            "begin a new catalogue with 'gukoremo init'.",
+        ),
+        numbers::NOT_RETAINED => (not_retained(lake, asked), "see the snapshots that are there with 'gukoremo snapshots FILE'."),
+        numbers::NOT_LIVE => (
+            match asked.at {
+                Some(at) => format!("there is no {thing} at snapshot {}.", at.0),
+                None => format!("there is no {thing} on record."),
+            },
+            "see what is there with 'gukoremo schemas', 'tables', 'columns' or 'files', and give --at for an older snapshot.",
+        ),
+        numbers::NO_SNAPSHOT_BY_THEN => (
+            match records::snapshots(lake).next() {
+                Some(first) => format!(
+                    "the first snapshot that is retained is {}, of {}, and you ask for {}.",
+                    first.id.0,
+                    when(first.time),
+                    when(asked.time.unwrap_or(0))
+                ),
+                None => "there is none.".to_string(),
+            },
+            "ask for a later time.",
+        ),
+        numbers::TIME_FALLS => (
+            format!(
+                "the latest snapshot, {latest_id}, has the time {}, and you give {}.",
+                when(latest.map_or(0, |snapshot| snapshot.time)),
+                when(asked.time.unwrap_or(0))
+            ),
+            "give that time or a later one with --time; without --time it is the clock's.",
+        ),
+        numbers::BAD_NAME => (
+            format!("'{}' has {} bytes; a name is 1 to {NAME_SIZE} ASCII letters, digits or underscores.", asked.name, asked.name.len()),
+            "give a name of that form.",
+        ),
+        numbers::NAME_TAKEN => (
+            format!("there is a {thing} at snapshot {latest_id}, the latest."),
+            "give another name, or drop that one first.",
+        ),
+        numbers::SCHEMA_NOT_EMPTY => (format!("{thing} still has tables."), "drop its tables first: 'gukoremo tables FILE --schema NAME' lists them."),
+        numbers::BAD_COLUMNS => (bad_columns(asked), "give 1 to 16 columns, each with a name of its own."),
+        numbers::BAD_RECORD_COUNT => (format!("you give {} rows.", asked.rows), "give --rows from 1 to 1048576; split a larger file."),
+        numbers::UUID_TAKEN => (uuid_taken(lake, asked), "give another UUID, or leave --uuid out, and one is made."),
+        numbers::BAD_STATISTICS => (
+            format!(
+                "the table's columns are {}; each needs its statistics once, with nulls only where they are allowed and not above the rows, bounds in the \
+                 type's range, the lower not above the higher, and none where every row is null.",
+                asked.columns.join(", ")
+            ),
+            "give for each column COLUMN=MIN..MAX and, where there are nulls, nulls=N after it.",
+        ),
+        numbers::BAD_POSITIONS => (bad_positions(lake, asked), "give positions once each, from the lowest to the highest, below the file's rows."),
+        numbers::ALREADY_DELETED => {
+            let position = usize::try_from(refusal.place).ok().and_then(|at| asked.list.get(at).copied()).unwrap_or(0);
+            (format!("position {position}, at index {} of your list, is already deleted.", refusal.place), "leave out what is deleted.")
+        }
+        numbers::BAD_EXPIRY_LIST => (
+            if asked.list.is_empty() { "the list is empty.".to_string() } else { "the list is not in order, or names a snapshot twice.".to_string() },
+            "give snapshots once each, from the lowest to the highest.",
+        ),
+        numbers::EXPIRES_LATEST => (format!("{latest_id} is the latest snapshot, and a catalogue always has one."), "leave it out."),
+        _ => (String::new(), ""),
+    };
+    (why, advice.to_string())
+}
+
+fn when(time: u64) -> String {
+    format!("{time} ({})", times::rfc(time))
+}
+
+fn fullness(lake: &Lake) -> String {
+    let places = runs::places(lake.view());
+    let used = runs::words_of(lake.counts());
+    let parts: Vec<String> = (0..9).map(|at| format!("{} {} of {}", runs::TABLES[at], used[at], places[at])).collect();
+    parts.join(", ")
+}
+
+fn not_retained(lake: &Lake, asked: &Asked<'_>) -> String {
+    let ids: Vec<u64> = records::snapshots(lake).map(|snapshot| snapshot.id.0).collect();
+    let asked_for: Vec<u64> = match asked.at {
+        Some(at) => vec![at.0],
+        None => asked.list.iter().copied().filter(|id| ids.binary_search(id).is_err()).collect(),
+    };
+    format!("{} was expired or not made yet; retained are {}.", ranges(&asked_for), ranges(&ids))
+}
+
+/// Numbers in order, with what follows each other put together.
+pub fn ranges(numbers: &[u64]) -> String {
+    let mut parts: Vec<(u64, u64)> = Vec::new();
+    for number in numbers {
+        match parts.last_mut() {
+            Some((_, last)) if last.checked_add(1) == Some(*number) => *last = *number,
+            _ => parts.push((*number, *number)),
+        }
+    }
+    let parts: Vec<String> = parts.iter().map(|(first, last)| if first == last { first.to_string() } else { format!("{first}..{last}") }).collect();
+    parts.join(", ")
+}
+
+fn bad_columns(asked: &Asked<'_>) -> String {
+    let names = &asked.column_names;
+    if names.is_empty() || names.len() > COLUMN_LIMIT {
+        return format!("you give {} columns.", names.len());
+    }
+    let is_name = |name: &str| (1..=NAME_SIZE).contains(&name.len()) && name.bytes().all(|byte| byte.is_ascii_alphanumeric() || byte == b'_');
+    if let Some(bad) = names.iter().find(|name| !is_name(name)) {
+        return format!("'{bad}' is no name: that is 1 to {NAME_SIZE} ASCII letters, digits or underscores.");
+    }
+    match names.iter().enumerate().find(|(at, name)| names[..*at].contains(name)) {
+        Some((_, twice)) => format!("'{twice}' is there twice."),
+        None => "a type or a flag is not known.".to_string(),
+    }
+}
+
+fn uuid_taken(lake: &Lake, asked: &Asked<'_>) -> String {
+    let Some(uuid) = asked.uuid else { return "the UUID is in use.".to_string() };
+    let data = records::data_files(lake).filter(|file| file.uuid == uuid).map(|file| format!("data file {}", file.id.0));
+    let delete = records::delete_files(lake).filter(|file| file.uuid == uuid).map(|file| format!("delete file {}", file.id.0));
+    let scheduled = records::scheduled(lake).filter(|file| file.uuid == uuid).map(|file| format!("file {}, which is scheduled,", file.file.0));
+    let holder = data.chain(delete).chain(scheduled).next().unwrap_or_else(|| "another file".to_string());
+    format!("{holder} has {}.", uuids::show(uuid))
+}
+
+fn bad_positions(lake: &Lake, asked: &Asked<'_>) -> String {
+    if asked.list.is_empty() {
+        return "the list is empty.".to_string();
+    }
+    if let Some(pair) = asked.list.windows(2).find(|pair| pair[0] >= pair[1]) {
+        return format!("{} stands after {}.", pair[1], pair[0]);
+    }
+    match records::data_files(lake).find(|file| Some(file.id) == asked.file) {
+        Some(file) => format!("file {} has {} rows, positions 0 to {}.", file.id.0, file.record_count, file.record_count.saturating_sub(1)),
+        None => "a position is past the file.".to_string(),
+    }
+}

@@ -1,0 +1,57 @@
+//! UUIDs in their usual form, or made.
+
+use super::times;
+use gukoremo::Uuid;
+use std::fs::File;
+use std::io::{self, Read};
+
+/// 8-4-4-4-12 hexadecimal digits, in either case; or the 32 digits without the strokes.
+pub fn parse(text: &str) -> Result<Uuid, String> {
+    let wrong = || "a UUID is 8-4-4-4-12 hexadecimal digits, such as 00000000-0000-0000-0000-000000000001".to_string();
+    let strokes = [8, 13, 18, 23];
+    let digits: Vec<u8> = match text.len() {
+        36 if strokes.iter().all(|at| text.as_bytes()[*at] == b'-') => {
+            text.bytes().enumerate().filter(|(at, _)| !strokes.contains(at)).map(|(_, digit)| digit).collect()
+        }
+        32 => text.bytes().collect(),
+        _ => return Err(wrong()),
+    };
+    let word =
+        |digits: &[u8]| digits.iter().try_fold(0, |word: u64, digit| Some(word << 4 | (*digit as char).to_digit(16)? as u64)).ok_or_else(wrong);
+    Ok(Uuid { high: word(&digits[..16])?, low: word(&digits[16..])? })
+}
+
+pub fn show(uuid: Uuid) -> String {
+    let (high, low) = (uuid.high, uuid.low);
+    format!("{:08x}-{:04x}-{:04x}-{:04x}-{:012x}", high >> 32, high >> 16 & 0xffff, high & 0xffff, low >> 48, low & 0xffff_ffff_ffff)
+}
+
+/// A new one of version 7: the clock's milliseconds, then chance. Files made later sort later.
+pub fn make() -> io::Result<Uuid> {
+    let mut chance = [0; 16];
+    File::open("/dev/urandom")?.read_exact(&mut chance)?;
+    let chance = u128::from_le_bytes(chance);
+    let high = (times::now() / 1_000) << 16 | 0x7000 | (chance as u64 & 0x0fff);
+    let low = 1 << 63 | (chance >> 64) as u64 >> 2;
+    Ok(Uuid { high, low })
+}
+
+#[cfg(test)]
+mod tests {
+    use super::{make, parse, show};
+
+    #[test]
+    fn there_and_back() {
+        let text = "0198c2a4-0f3e-7abc-8def-0123456789ab";
+        assert_eq!(parse(text).map(show), Ok(text.to_string()));
+        assert_eq!(parse(&text.replace('-', "").to_uppercase()).map(show), Ok(text.to_string()));
+        for bad in
+            ["", "0198c2a4", "0198c2a4-0f3e-7abc-8def-0123456789aé", "0198c2a40-f3e-7abc-8def-0123456789ab", "+198c2a4-0f3e-7abc-8def-0123456789ab"]
+        {
+            assert!(parse(bad).is_err(), "{bad}");
+        }
+        let made = show(make().expect("chance"));
+        assert_eq!(&made[14..15], "7");
+        assert!("89ab".contains(&made[19..20]));
+    }
+}

@@ -1,0 +1,125 @@
+//! The published queries, on what `export` writes, give the lists that the calls give: at every retained snapshot of random catalogues.
+
+use crate::support::{answer, bytes, text, Chance, Folder};
+use gukoremo::{Catalog, CatalogId, ColumnType, FileId, NewColumn, NewStatistics, OwnedTables, SnapshotId, Uuid};
+use gukoremo_cli::file::Lake;
+use gukoremo_cli::{records, runs};
+use rusqlite::{params, Connection, Row};
+
+/// Document 000, 'List Schemas'; its text is lost in the page's break and is the one of 'List Tables' without the schema.
+const SCHEMAS: &str =
+    "SELECT schema_id, schema_name FROM ducklake_schema WHERE ?1 >= begin_snapshot AND (?1 < end_snapshot OR end_snapshot IS NULL) \
+    ORDER BY schema_id";
+const TABLES: &str = "SELECT table_id, table_name FROM ducklake_table WHERE schema_id = ?2 AND ?1 >= begin_snapshot AND \
+    (?1 < end_snapshot OR end_snapshot IS NULL) ORDER BY table_id";
+const COLUMNS: &str = "SELECT column_id, column_name, column_type FROM ducklake_column WHERE table_id = ?2 AND parent_column IS NULL AND \
+    ?1 >= begin_snapshot AND (?1 < end_snapshot OR end_snapshot IS NULL) ORDER BY column_order";
+/// 'SELECT': data files joined with their delete files. Its text too is lost, and is put together from what stands around it.
+const FILES: &str = "SELECT data.path AS data_file_path, del.path AS delete_file_path FROM ducklake_data_file AS data LEFT JOIN \
+    (SELECT * FROM ducklake_delete_file WHERE ?1 >= begin_snapshot AND (?1 < end_snapshot OR end_snapshot IS NULL)) AS del USING (data_file_id) \
+    WHERE data.table_id = ?2 AND ?1 >= data.begin_snapshot AND (?1 < data.end_snapshot OR data.end_snapshot IS NULL) ORDER BY file_order";
+/// 'SELECT with File Pruning', with the cast that it asks for.
+const PRUNED: &str = "SELECT data_file_id FROM ducklake_file_column_stats WHERE table_id = ?1 AND column_id = ?2 AND \
+    (?3 >= CAST(min_value AS BIGINT) OR min_value IS NULL) AND (?3 <= CAST(max_value AS BIGINT) OR max_value IS NULL)";
+
+/// A catalogue of random changes, refused ones among them.
+fn random(chance: &mut Chance) -> Lake {
+    let mut lake = Catalog::fresh(OwnedTables::with_room(runs::room(200)), 100).expect("room");
+    for step in 0..80 {
+        let (time, uuid) = (110 + step, Uuid { high: 5, low: step });
+        let table = CatalogId(1 + chance.below(6));
+        let _ = match chance.below(12) {
+            0 => lake.create_schema(time, format!("s{}", chance.below(4))).map(|_| ()),
+            1 | 2 => {
+                let column = |name| NewColumn { name, column_type: ColumnType::Int32, nulls_allowed: true };
+                lake.create_table(time, CatalogId(chance.below(3)), format!("t{}", chance.below(5)), &[column("item"), column("price")]).map(|_| ())
+            }
+            3..=6 => {
+                let low = chance.below(40) as i64 - 20;
+                let bound = |chance: &mut Chance, value| (chance.below(4) > 0).then_some(value);
+                let statistics = [
+                    NewStatistics { column: 1, null_count: chance.below(3), min: bound(chance, low), max: bound(chance, low + 10) },
+                    NewStatistics { column: 2, null_count: 0, min: bound(chance, low), max: bound(chance, low + 2) },
+                ];
+                lake.insert(time, table, 6, uuid, &statistics).map(|_| ())
+            }
+            7..=9 => lake.delete(time, FileId(chance.below(30)), uuid, &[chance.below(6)]).map(|_| ()),
+            10 => lake.drop_table(time, table).map(|_| ()),
+            _ => lake.expire(&[SnapshotId(chance.below(step + 1))], time),
+        };
+    }
+    lake
+}
+
+fn rows<Item>(from: &Connection, query: &str, given: impl rusqlite::Params, item: impl FnMut(&Row<'_>) -> rusqlite::Result<Item>) -> Vec<Item> {
+    let mut statement = from.prepare(query).expect("a query");
+    let rows = statement.query_map(given, item).expect("rows");
+    rows.collect::<rusqlite::Result<_>>().expect("rows")
+}
+
+#[test]
+fn published_queries_give_the_same_lists() {
+    let folder = Folder::new("export");
+    let mut compared = 0;
+    for seed in 0..6 {
+        let lake = random(&mut Chance::new(50 + seed));
+        let (path, out) = (folder.path(&format!("{seed}.lake")), folder.path(&format!("{seed}.sqlite")));
+        let (tables, counts) = lake.into_parts();
+        std::fs::write(&path, bytes(Catalog::resume(tables.clone(), counts))).expect("written");
+        let lake = Catalog::resume(tables, counts);
+        answer(&["export", text(&path), text(&out), "--data-path", "s3://shop/"]);
+        let from = Connection::open(&out).expect("SQLite");
+        let names = rows(&from, "SELECT count(*) FROM sqlite_master WHERE type = 'table'", [], |row| row.get::<_, i64>(0));
+        assert_eq!(names, [22], "\"DuckLake 0.3 uses 22 tables\"");
+        assert_eq!(rows(&from, "SELECT value FROM ducklake_metadata WHERE key = 'data_path'", [], |row| row.get::<_, String>(0)), ["s3://shop/"]);
+        for snapshot in records::snapshots(&lake) {
+            compared += compare(&lake, &from, snapshot.id);
+        }
+        assert_eq!(
+            rows(&from, "SELECT max(snapshot_id) FROM ducklake_snapshot", [], |row| row.get::<_, u64>(0)),
+            [records::latest(&lake).expect("one").id.0]
+        );
+        let scheduled: Vec<u64> = records::scheduled(&lake).map(|file| file.file.0).collect();
+        assert_eq!(
+            rows(&from, "SELECT data_file_id FROM ducklake_files_scheduled_for_deletion ORDER BY rowid", [], |row| row.get::<_, u64>(0)),
+            scheduled
+        );
+    }
+    println!("{compared} lists by the published queries are those of the calls");
+    assert!(compared > 1_000, "{compared} lists compared");
+}
+
+/// Every list of a snapshot; how many there were.
+fn compare(lake: &Lake, from: &Connection, at: SnapshotId) -> usize {
+    let mut compared = 1;
+    let schemas: Vec<u64> = lake.list_schemas(at).expect("retained").iter().map(|id| id.0).collect();
+    assert_eq!(rows(from, SCHEMAS, [at.0], |row| row.get::<_, u64>(0)), schemas);
+    for schema in schemas {
+        let tables = lake.list_tables(at, CatalogId(schema)).expect("live");
+        let found = rows(from, TABLES, [at.0, schema], |row| Ok((row.get::<_, u64>(0)?, row.get::<_, String>(1)?)));
+        assert_eq!(found.iter().map(|(id, _)| CatalogId(*id)).collect::<Vec<_>>(), tables);
+        for (id, name) in found {
+            assert_eq!(lake.table_by_name(at, CatalogId(schema), &name), Ok(CatalogId(id)));
+            compared += 1 + compare_table(lake, from, at, id);
+        }
+    }
+    compared
+}
+
+fn compare_table(lake: &Lake, from: &Connection, at: SnapshotId, id: u64) -> usize {
+    let table = CatalogId(id);
+    let columns = rows(from, COLUMNS, [at.0, id], |row| row.get::<_, u64>(0));
+    assert_eq!(columns, lake.list_columns(at, table).expect("live"));
+    let path = |file: FileId| lake.copy_file(file).expect("on record").uuid().path();
+    let listed = lake.list_files(at, table).expect("live");
+    let paths: Vec<(String, Option<String>)> = listed.iter().map(|pair| (path(pair.data_file), pair.delete_file.map(path))).collect();
+    assert_eq!(rows(from, FILES, [at.0, id], |row| Ok((row.get(0)?, row.get(1)?))), paths);
+    for (column, scalar) in [(1, -15), (1, 3), (2, 9), (2, 1000)] {
+        let kept: Vec<u64> = rows(from, PRUNED, params![id, column, scalar], |row| row.get(0));
+        let filtered = lake.list_filtered_files(at, table, column, scalar).expect("live");
+        // the query is of all files of the table; those at the snapshot are kept of the list
+        let expected: Vec<_> = listed.iter().filter(|pair| kept.contains(&pair.data_file.0)).copied().collect();
+        assert_eq!(filtered, expected);
+    }
+    6
+}

@@ -1,0 +1,80 @@
+//! A second writer is kept out and told who has the lock; a full disk leaves the catalogue as it was.
+
+use crate::support::{answer, bytes, diary, gukoremo, large, text, Folder, COMMAND};
+use gukoremo_cli::file::Writing;
+use std::process::Command;
+use std::time::Duration;
+
+#[test]
+fn a_second_writer_is_kept_out() {
+    let folder = Folder::new("locks");
+    let path = folder.path("l.lake");
+    diary(&path);
+    let before = std::fs::read(&path).expect("there");
+    let (writing, _) = Writing::open(&path, Duration::ZERO).expect("no one else");
+    let kept_out = gukoremo(&["create-schema", text(&path), "books"]);
+    assert_eq!(kept_out.status.code(), Some(75));
+    let said = String::from_utf8_lossy(&kept_out.stderr).into_owned();
+    assert!(said.contains(&format!("process {}", std::process::id())), "{said}");
+    assert_eq!(std::fs::read(&path).expect("there"), before);
+    // a reader is not kept out
+    assert!(answer(&["snapshots", text(&path), "--csv"]).contains("deleted_from_table"));
+    // one that waits gets its turn
+    let waiting = Command::new(COMMAND).args(["create-schema", text(&path), "books", "--wait", "20"]).spawn();
+    std::thread::sleep(Duration::from_millis(50));
+    drop(writing);
+    assert!(waiting.expect("runs").wait().expect("ends").success());
+    assert!(answer(&["schemas", text(&path), "--csv"]).contains("books"));
+}
+
+/// `init` never takes the place of a file.
+#[test]
+fn init_keeps_what_is_there() {
+    let folder = Folder::new("init");
+    let path = folder.path("i.lake");
+    std::fs::write(&path, "a letter").expect("written");
+    assert_eq!(gukoremo(&["init", text(&path)]).status.code(), Some(73));
+    assert_eq!(std::fs::read(&path).expect("there"), b"a letter");
+}
+
+/// The system's limit on the length of files stands in for a full disk: a write ends in the middle with an error.
+#[test]
+fn a_full_disk_changes_nothing() {
+    let folder = Folder::new("full");
+    let path = folder.path("f.lake");
+    let before = bytes(large(1000));
+    std::fs::write(&path, &before).expect("written");
+    let script = "trap '' XFSZ; ulimit -f 100; exec \"$0\" \"$@\"";
+    let output = Command::new("sh").args(["-c", script, COMMAND, "create-schema", text(&path), "books"]).output().expect("runs");
+    let said = String::from_utf8_lossy(&output.stderr);
+    assert_eq!(output.status.code(), Some(74), "{said}");
+    assert!(said.contains("as it was"), "{said}");
+    assert_eq!(std::fs::read(&path).expect("there"), before);
+    assert!(!folder.path("f.lake.new").exists());
+}
+
+/// A cleanup whose list can't be written forgets no file.
+#[test]
+fn a_cleanup_that_is_not_read_forgets_nothing() {
+    let folder = Folder::new("cleanup");
+    let path = folder.path("c.lake");
+    diary(&path);
+    answer(&["expire", text(&path), "4", "--time", "160"]);
+    let full = std::fs::OpenOptions::new().write(true).open("/dev/full").expect("a full device");
+    let output = Command::new(COMMAND).args(["cleanup", text(&path), "--before", "161"]).stdout(full).output().expect("runs");
+    assert_eq!(output.status.code(), Some(74));
+    assert_eq!(answer(&["cleanup", text(&path), "--before", "161", "--csv"]).lines().count(), 2);
+    assert_eq!(answer(&["cleanup", text(&path), "--before", "161", "--csv"]).lines().count(), 1);
+}
+
+/// A link is followed, and stays one.
+#[test]
+fn a_link_stays_a_link() {
+    let folder = Folder::new("links");
+    let (path, link) = (folder.path("real.lake"), folder.path("link.lake"));
+    diary(&path);
+    std::os::unix::fs::symlink(&path, &link).expect("a link");
+    answer(&["create-schema", text(&link), "books"]);
+    assert!(link.symlink_metadata().expect("there").is_symlink());
+    assert!(answer(&["schemas", text(&path), "--csv"]).contains("books"));
+}

@@ -1,0 +1,11 @@
+//! The command, tried as a process and from within: kills, locks, damage, a full disk, random scripts, the limits, the published queries.
+//! Chance has a fixed seed, so that a failure comes again.
+
+mod damage;
+mod export;
+mod kills;
+mod limits;
+mod locks;
+mod refusals;
+mod scripts;
+mod support;
