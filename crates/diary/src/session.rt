@@ -1,10 +1,10 @@
 ghost use Rattle.layout.specs.Lent.{atEntry, atExit};
 ghost use Rattle.ducklake.specs.Calls.{perform, performFresh, Promise};
 ghost use Rattle.diary.specs.Session.{freshTime, createDiary, insertThree, insertTwo, deleteOne, deleteZero, after, played};
-use catalog_tables::create_table::catalog_create_table;
+use catalog_maintenance::fresh::catalog_fresh;
 use catalog_rows::delete::catalog_delete;
 use catalog_rows::insert::catalog_insert;
-use catalog_maintenance::fresh::catalog_fresh;
+use catalog_tables::create_table::catalog_create_table;
 use layout::number::COLUMN_ARGUMENT_SIZE;
 use layout::number::CatalogId;
 use layout::number::FileId;
