@@ -11,7 +11,7 @@
  *     runs and arguments may overlap each other.
  *   - A run of words begins at a multiple of 8 bytes. Lengths are in words, and for names in bytes. A run of length 0 may have a null pointer.
  *   - A run may be longer than whole records need, and longer than the limits below: the rest is not used.
- *   - A call takes some 100 KB of the stack, for the check of the tables.
+ *   - A call takes less than 512 KiB of the stack, most of it for the check of the tables (measured at the limits).
  *
  * What each call does is `Promise` in crates/ducklake/specs/Calls.antt. Words in quotes are those of document 01.
  */
