@@ -117,6 +117,7 @@ impl List<'_> {
             let spare = if self.dice.one_in(3) { self.dice.index(size + 2) } else { 0 };
             let length = places[runs::table_of(run)] * size + spare;
             let fill = [0, 1, ABSENT, self.dice.word()][self.dice.index(4)];
+            let fill = if run < runs::FIRST_NAMES { fill } else { fill & 0xff };
             self.take(Line::Lend { run, length, fill })?;
         }
         let counts = std::array::from_fn(|_| if self.dice.one_in(3) { self.dice.word() } else { 0 });

@@ -19,6 +19,8 @@ Lines; # begins a comment:
                                positions statistics scheduled
   area LENGTH [FILL]           the answer area
   dump                         the runs, the counts and the area as they are
+  = NUMBER PLACE LENGTH ..     the last call gave this line, else the script ends here
+  sum HEXADECIMAL              the runs and the area have this sum (conformance/README.md), else the script ends here
 Runs: snapshots schemas schema_names tables table_names columns column_names data_files delete_files positions
       statistics scheduled. A run that was not lent has length 0.
 Calls:

@@ -12,11 +12,13 @@ pub struct Stage {
     pub tables: OwnedTables,
     pub counts: Counts,
     pub area: Vec<u64>,
+    /// the line of the last call
+    answer: String,
 }
 
 impl Default for Stage {
     fn default() -> Stage {
-        Stage { tables: OwnedTables::default(), counts: Counts::NONE, area: Vec::new() }
+        Stage { tables: OwnedTables::default(), counts: Counts::NONE, area: Vec::new(), answer: String::new() }
     }
 }
 
@@ -46,13 +48,23 @@ impl Stage {
                 given.end()?;
                 self.dump(out)?;
             }
+            "=" => self.compare(&mut given)?,
+            "sum" => {
+                let said = given.text("HEXADECIMAL")?;
+                given.end()?;
+                let sum = format!("{:016x}", self.sum());
+                if said != sum {
+                    return Err(format!("the sum of the runs and the area is {sum}, and not {said}").into());
+                }
+            }
             _ => match calls::call(self, &mut given)? {
                 None => return Err(format!("'{command}' is no command").into()),
                 Some(outcome) => {
-                    write!(out, "{} {} {}", outcome.number, outcome.place, outcome.length)?;
-                    runs::words_of(outcome.counts).iter().try_for_each(|count| write!(out, " {count}"))?;
-                    self.area.iter().take(outcome.length).try_for_each(|word| write!(out, " {word}"))?;
-                    writeln!(out)?;
+                    let counts = runs::words_of(outcome.counts);
+                    let answer = self.area.iter().take(outcome.length);
+                    let words: Vec<String> = counts.iter().map(|count| count.to_string()).chain(answer.map(|word| word.to_string())).collect();
+                    self.answer = format!("{} {} {} {}", outcome.number, outcome.place, outcome.length, words.join(" "));
+                    writeln!(out, "{}", self.answer)?;
                     self.counts = outcome.counts;
                 }
             },
@@ -102,6 +114,32 @@ impl Stage {
             }
         }
         Ok(())
+    }
+
+    /// What the last call should have given.
+    fn compare(&self, given: &mut Arguments<'_>) -> Result<(), String> {
+        let mut said = Vec::new();
+        while given.rest.len() > 0 {
+            said.push(given.text("a number")?);
+        }
+        match said.join(" ") == self.answer {
+            true => Ok(()),
+            false => Err(format!("the last call gave '{}', and not '{}'", self.answer, said.join(" "))),
+        }
+    }
+
+    /// FNV-1a of 64 bits over the words, the name bytes and the area, each as eight bytes from the lowest: as conformance/README.md has it.
+    fn sum(&self) -> u64 {
+        let (mut words, mut bytes) = (Vec::new(), Vec::new());
+        for view in runs::views(&self.tables) {
+            match view {
+                RunView::Words(run) => words.extend(run.iter().copied()),
+                RunView::Bytes(run) => bytes.extend(run.iter().map(|byte| u64::from(*byte))),
+            }
+        }
+        let all = words.iter().chain(&bytes).chain(&self.area);
+        all.flat_map(|word| word.to_le_bytes())
+            .fold(0xcbf2_9ce4_8422_2325, |sum, byte| (sum ^ u64::from(byte)).wrapping_mul(0x0000_0100_0000_01b3))
     }
 
     fn count(&mut self, given: &mut Arguments<'_>) -> Result<(), String> {
