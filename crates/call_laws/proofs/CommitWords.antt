@@ -28,7 +28,7 @@ use Rattle.call_laws.proofs.Stores.{StoredTable, run-same, run-more, re
 use Rattle.ducklake.specs.Kinds.{createdSchema, createdTable, insertedIntoTable, deletedFromTable, droppedSchema, droppedTable}
 use Rattle.ducklake.specs.Liveness.{latestOf, latest, latestId, tableOfId, dataFileOfId, deletedAt}
 use Rattle.ducklake.specs.Arguments.{columnArgumentSize, columnArguments, newColumns, columnsFit, newStatistics}
-use Rattle.ducklake.specs.Commits.{Change, createSchema, createTable, insert, delete, dropTable, dropSchema, close, grow, born, none, noRows, nextSnapshot, commit, changeOf, newDataFileId}
+use Rattle.ducklake.specs.Commits.{Change, createSchema, createTable, insert, delete, dropTable, dropSchema, close, grow, born, none, noRows, nextSnapshot, commit, newTable, newDataFile, changeOf, newDataFileId}
 use Rattle.call_laws.specs.Latest.{following}
 use Rattle.call_laws.specs.Rewritten.{endSchema, endTable, endColumn, endDataFile, endDeleteFile, ofTable, ofDataFile, growTable, opened}
 use Rattle.call_laws.proofs.Commits.{next-is}
@@ -151,12 +151,9 @@ module _ (w : Words) (c : Counts) (h : fits w c ≡ true) (time : ℕ) where
     abbrev createdTableChange : Change
     createdTableChange = changeOf C time (createTable schema name words names)
 
-    abbrev newTable : Table
-    newTable = record { schema = schema; nextRowId = 0; name = padded name }
-
     pub create-table-words : {ns ts tn cs cn : List ℕ}
         → ns ≡ overwrite (w .snapshots) (snapshotSize * c .snapshots) (snapshotWords (snapshotRecord (following l time createdTable (l .nextCatalogId) 1 0)))
-        → ts ≡ overwrite (w .tables) (tableSize * c .tables) (tableWords (tableRecord (opened (l .id + 1) (l .nextCatalogId) (record { schema = schema; nextRowId = 0; name = padded name }))))
+        → ts ≡ overwrite (w .tables) (tableSize * c .tables) (tableWords (tableRecord (opened (l .id + 1) (l .nextCatalogId) (newTable schema name))))
         → tn ≡ overwrite (w .tableNames) (nameSize * c .tables) (padded name)
         → cs ≡ extendTable columnLayout (w .columns) (c .columns) (map columnRecord (born (l .id + 1) 1 (newColumns (l .nextCatalogId) words names)))
         → cn ≡ extendNames (λ x. x .name) (w .columnNames) (c .columns) (newColumns (l .nextCatalogId) words names)
@@ -170,7 +167,7 @@ module _ (w : Words) (c : Counts) (h : fits w c ≡ true) (time : ℕ) where
         (snapshot-run createdTableChange (next-is C createdTableChange (latest C) 1 0 refl refl refl) p)
         (table-same schemaTable w c h D (closed-same _ (C .schemas)))
         (records-same schemaNameRun w c h D (closed-same _ (C .schemas)))
-        (one-more tableTable D (grown-one (suc (latestId C)) _ _ (C .tables) newTable (add-zero (latest C .nextCatalogId))) (ap (λ n. opened n (latest C .nextCatalogId) newTable) (add-one (latestId C))) q)
+        (one-more tableTable D (grown-one (suc (latestId C)) _ _ (C .tables) (newTable schema name) (add-zero (latest C .nextCatalogId))) (ap (λ n. opened n (latest C .nextCatalogId) (newTable schema name)) (add-one (latestId C))) q)
         (r ∙ (ap (overwrite (w .tableNames) (nameSize * c .tables)) (sym (append-nil (padded name))) ∙ run-more tableNameRun w c h D _ (names-grown _ none noRows (C .tables) _)))
         (s ∙ (ap (λ n. extendTable columnLayout (w .columns) (c .columns) (map columnRecord (born n 1 columns))) (add-one (latestId C)) ∙ table-more columnTable w c h D new (ap (λ vs. vs ++ new) (closed-none _ (C .columns)))))
         (t ∙ (ap (overwrite (w .columnNames) (nameSize * c .columns)) (sym (born-words (λ x. x .name) (suc (latestId C)) 1 columns)) ∙ records-more columnNameRun w c h D new (ap (λ vs. vs ++ new) (closed-none _ (C .columns)))))
@@ -192,13 +189,13 @@ module _ (w : Words) (c : Counts) (h : fits w c ≡ true) (time : ℕ) where
         → ns ≡ overwrite (w .snapshots) (snapshotSize * c .snapshots) (snapshotWords (snapshotRecord (following l time insertedIntoTable table 0 1)))
         → ts ≡ rewriteTable tableLayout (w .tables) (c .tables) (growTable table rows)
         → fs ≡ overwrite (w .dataFiles) (dataFileSize * c .«data_files») (dataFileWords (dataFileRecord (opened (l .id + 1) (l .nextFileId)
-        (record { table = table; recordCount = rows; rowIdStart = tableOfId (tablesIn (w .tables) (w .tableNames) (c .tables)) table .body .nextRowId; uuid = uuid }))))
+        (newDataFile table rows (tableOfId (tablesIn (w .tables) (w .tableNames) (c .tables)) table .body .nextRowId) uuid))))
         → qs ≡ extendTable statisticsLayout (w .statistics) (c .statistics) (map statisticsRecord (newStatistics (l .nextFileId) statistics))
         → lent ns (w .schemas) (w .schemaNames) ts (w .tableNames) (w .columns) (w .columnNames) fs (w .deleteFiles) (w .positions) qs (w .scheduled) ≡ store w c (commit C inserted)
     unfolding commit changeOf load flatMap
     insert-words p q r s =
         let D = commit C inserted in
-        let new : DataFile = record { table = table; recordCount = rows; rowIdStart = tableOfId (C .tables) table .body .nextRowId; uuid = uuid } in
+        let new : DataFile = newDataFile table rows (tableOfId (C .tables) table .body .nextRowId) uuid in
         words-same
         (snapshot-run inserted (next-is C inserted (latest C) 0 1 refl refl refl) p)
         (table-same schemaTable w c h D (closed-same _ (C .schemas)))

@@ -7,13 +7,11 @@ use native.Mathlib.Omega.{arith}
 use Rattle.lists.specs.Lists.{range, sum}
 use Rattle.lists.specs.Runs.{overwrite}
 use Rattle.layout.specs.Records.{snapshotWords, schemaWords}
-use Rattle.layout.specs.Catalog.{absent, Snapshot, Versioned, Schema, snapshotRecord, schemaRecord}
-use Rattle.layout.specs.Names.{padded}
+use Rattle.layout.specs.Catalog.{snapshotRecord, schemaRecord}
 use Rattle.layout.specs.Words.{Words, lent, load, store, countsOf, capacity, positionsBefore, fits}
 use Rattle.layout.proofs.Room.{reflects-within}
 use Rattle.call_laws.proofs.Stores.{table-same, table-more, records-same, records-more, snapshotTable, schemaTable, tableTable, columnTable, dataFileTable, deleteFileTable, statisticsTable, scheduledTable, schemaNameRun, tableNameRun, columnNameRun, positionRun}
-use Rattle.ducklake.specs.Kinds.{createdSchema}
-use Rattle.ducklake.specs.Commits.{freshCatalog}
+use Rattle.ducklake.specs.Commits.{freshSnapshot, freshName, freshSchema, freshCatalog}
 use Rattle.ducklake.specs.Calls.{noCounts}
 use Rattle.call_laws.proofs.CommitWords.{words-same}
 
@@ -31,18 +29,6 @@ fits-none w = rw (reflects-within noCounts (capacity w) .from (record {
   statistics = omega arith;
   scheduled = omega arith;
 }))
-
--- "snapshot 0, schema_version 0, next_catalog_id 1, next_file_id 0, kind 1, object 0"
-abbrev pub freshSnapshot : ℕ → Snapshot
-freshSnapshot time = record { id = 0; time = time; schemaVersion = 0; nextCatalogId = 1; nextFileId = 0; kind = createdSchema; object = 0 }
-
--- `main`
-abbrev pub freshName : List ℕ
-freshName = padded (109 ∷ 97 ∷ 105 ∷ 110 ∷ [])
-
--- "schema 0 `main`, begin 0"
-abbrev pub freshSchema : Versioned Schema
-freshSchema = record { id = 0; begin = 0; end = absent; body = record { name = freshName } }
 
 pub fresh-counts : (time : ℕ) → countsOf (freshCatalog time)
     ≡ record { snapshots = 1; schemas = 1; tables = 0; columns = 0; «data_files» = 0; «delete_files» = 0; positions = 0; statistics = 0; scheduled = 0 }

@@ -10,9 +10,9 @@ use Rattle.layout.specs.Records.{snapshotWords, schemaWords}
 use Rattle.layout.specs.Catalog.{snapshotRecord, schemaRecord}
 use Rattle.layout.specs.Words.{Words, lent, store, countsOf, capacity, within}
 use Rattle.layout.proofs.Room.{Held, held}
-use Rattle.ducklake.specs.Commits.{freshCatalog}
+use Rattle.ducklake.specs.Commits.{freshSnapshot, freshName, freshSchema, freshCatalog}
 use Rattle.ducklake.specs.Calls.{hasRoom, noCounts}
-use Rattle.call_laws.proofs.Fresh.{freshSnapshot, freshName, freshSchema, fresh-counts, fresh-words}
+use Rattle.call_laws.proofs.Fresh.{fresh-counts, fresh-words}
 use Rattle.catalog_maintenance.specs.Relied.{FreshRoom}
 
 abbrev freshCounts : Counts

@@ -8,11 +8,11 @@ use layout::outcome::ACCEPTED;
 use layout::outcome::Counts;
 use layout::outcome::NOT_SOUND;
 use layout::outcome::Outcome;
-use records::value::to_signed;
 use scans::files::read_files;
 use scans::filter::Filter;
 use scans::judge::judge_column;
 use soundness::check::is_sound;
+use values::to_signed;
 
 // The files of a table at a retained snapshot that its statistics keep for `column = scalar`, each with its delete file. The scalar is a signed number, by
 // its word.

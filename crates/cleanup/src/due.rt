@@ -10,11 +10,11 @@ ghost use Rattle.ducklake.specs.Maintenance.{handedSize, handedWords};
 ghost use Rattle.cleanup.specs.Handed.{Lent, dueIn, wordsDue, Handed, staysAt};
 use compaction::flags::set_flag;
 use compaction::words::keep_records;
+use file_records::scheduled::scheduled_at;
+use file_records::scheduled::scheduled_start;
 use layout::number::HANDED_SIZE;
 use layout::number::TABLE_LIMIT;
 use layout::record::ScheduledRecord;
-use records::scheduled::scheduled_at;
-use records::scheduled::scheduled_start;
 
 // "schedule_start < t"
 fn is_due(start: u64, t: u64) -> bool

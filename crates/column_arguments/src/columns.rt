@@ -14,7 +14,7 @@ use layout::number::COLUMN_LIMIT;
 use layout::number::NAME_SIZE;
 use names::is_name;
 use names::same_name;
-use records::value::is_type;
+use values::is_type;
 
 // Whether the argument has 1 to 16 columns, two words each, and a name place for each.
 fn columns_are_whole(columns: &[u64], names: &[u8]) -> bool

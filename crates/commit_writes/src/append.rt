@@ -7,6 +7,7 @@ ghost use Rattle.layout.specs.Names.{nameSize, padded};
 ghost use Rattle.layout.specs.Catalog.{schemaRecord, tableRecord};
 ghost use Rattle.layout.specs.Records.{schemaWords, tableWords};
 ghost use Rattle.layout.specs.Words.{snapshotsIn};
+ghost use Rattle.ducklake.specs.Commits.{newTable};
 ghost use Rattle.ducklake.specs.Liveness.{latestOf};
 ghost use Rattle.call_laws.specs.Latest.{following};
 ghost use Rattle.call_laws.specs.Rewritten.{opened};
@@ -81,7 +82,7 @@ pub fn append_table(
 )
     requires { ⌜ NamedRoom tableSize (now tables) (now names) n (now name) ⌝ }
     ensures { λ _. ⌜ NamedAppended tableSize
-        (tableWords (tableRecord (opened (begin .0) (id .0) (record { schema = schema .0; nextRowId = 0; name = padded (now (name .entry)) }))))
+        (tableWords (tableRecord (opened (begin .0) (id .0) (newTable (schema .0) (now (name .entry))))))
         (padded (now (name .entry))) (now (tables .entry)) (now (names .entry)) n (now (tables .exit)) (now (names .exit)) ⌝ }
 {
     write_table(

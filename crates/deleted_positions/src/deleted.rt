@@ -7,12 +7,12 @@ ghost use Rattle.ducklake.specs.Liveness.{deletedAt};
 ghost use Rattle.lookup.specs.Positions.{PositionsWithin};
 ghost use Rattle.deleted_positions.specs.Deleted.{DeletesKnown, DeletedPart, firstOffending};
 use crate::positions::first_deleted;
+use file_records::delete_file::delete_file_delete_count;
 use layout::number::FileId;
 use layout::number::SnapshotId;
 use lists::Found;
 use lookup::deletion::find_live_delete_file;
 use lookup::positions::positions_before;
-use records::delete_file::delete_file_delete_count;
 
 // So many words of a run, from `start` on.
 pub struct Part {

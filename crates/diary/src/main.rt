@@ -1,12 +1,11 @@
 // Plays the diary session of document 01 and prints its files.
-mod listing;
 mod session;
 
 ghost use Rattle.paths.specs.Text.{Written};
-ghost use Rattle.diary.specs.Room.{Room};
-ghost use Rattle.diary.specs.Program.{diaryText};
-use crate::listing::write_listing;
+ghost use Rattle.diary_session.specs.Room.{Room};
+ghost use Rattle.diary_session.specs.Program.{diaryText};
 use crate::session::play_session;
+use diary_listing::write_listing;
 use layout::number::NAME_SIZE;
 use layout::outcome::Counts;
 use layout::record::ColumnRecord;

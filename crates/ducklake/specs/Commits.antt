@@ -13,11 +13,23 @@ use Rattle.ducklake.specs.Liveness.{latest, latestId, tableOfId, dataFil
 use Rattle.ducklake.specs.Soundness.{inLimit}
 use Rattle.ducklake.specs.Arguments.{newColumns, newStatistics}
 
--- "Fresh: snapshot 0, schema_version 0, next_catalog_id 1, next_file_id 0, kind 1, object 0; schema 0 `main`, begin 0."
+-- "Fresh: snapshot 0, schema_version 0, next_catalog_id 1, next_file_id 0, kind 1, object 0;"
+abbrev pub freshSnapshot : ℕ → Snapshot
+freshSnapshot time = record { id = 0; time = time; schemaVersion = 0; nextCatalogId = 1; nextFileId = 0; kind = createdSchema; object = 0 }
+
+-- "`main`"
+abbrev pub freshName : List ℕ
+freshName = padded (109 ∷ 97 ∷ 105 ∷ 110 ∷ [])
+
+-- "schema 0 `main`, begin 0."
+abbrev pub freshSchema : Versioned Schema
+freshSchema = record { id = 0; begin = 0; end = absent; body = record { name = freshName } }
+
+-- "writes just these two records and the name"
 unfoldable pub freshCatalog : ℕ → Catalog
 freshCatalog time = record {
-  snapshots = record { id = 0; time = time; schemaVersion = 0; nextCatalogId = 1; nextFileId = 0; kind = createdSchema; object = 0 } ∷ [];
-  schemas = record { id = 0; begin = 0; end = absent; body = record { name = padded (109 ∷ 97 ∷ 105 ∷ 110 ∷ []) } } ∷ [];
+  snapshots = freshSnapshot time ∷ [];
+  schemas = freshSchema ∷ [];
   tables = [];
   columns = [];
   dataFiles = [];
@@ -131,6 +143,13 @@ addsNothing = record { schemas = []; tables = []; columns = []; deleteFiles = []
 abbrev pub noRows : Versioned Table → ℕ
 noRows t = 0
 
+-- "next_row_id is 0"
+abbrev pub newTable : ℕ → List ℕ → Table
+newTable schema name = record { schema = schema; nextRowId = 0; name = padded name }
+
+abbrev pub newDataFile : ℕ → ℕ → ℕ → Uuid → DataFile
+newDataFile table recordCount rowIdStart uuid = record { table = table; recordCount = recordCount; rowIdStart = rowIdStart; uuid = uuid }
+
 -- what each commit changes
 unfoldable pub changeOf : Catalog → ℕ → Commit → Change
 changeOf C time (createSchema name) = record {
@@ -150,7 +169,7 @@ changeOf C time (createTable schema name columns names) = record {
   rows = noRows;
   added = record {
     schemas = [];
-    tables = record { schema = schema; nextRowId = 0; name = padded name } ∷ [];
+    tables = newTable schema name ∷ [];
     columns = newColumns (latest C .nextCatalogId) columns names;
     deleteFiles = [];
     dataFiles = [];
@@ -169,7 +188,7 @@ changeOf C time (insert table recordCount uuid statistics) = record {
     tables = [];
     columns = [];
     deleteFiles = [];
-    dataFiles = record { table = table; recordCount = recordCount; rowIdStart = tableOfId (C .tables) table .body .nextRowId; uuid = uuid } ∷ [];
+    dataFiles = newDataFile table recordCount (tableOfId (C .tables) table .body .nextRowId) uuid ∷ [];
     statistics = newStatistics (newDataFileId C 0) statistics;
   };
 }

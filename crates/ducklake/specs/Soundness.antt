@@ -10,9 +10,10 @@ use Rattle.layout.specs.declared.record.Uuid.{Uuid}
 use Rattle.layout.specs.Catalog.{absent, numberLimit, recordCountLimit, columnLimit, Versioned, Snapshot, Schema, Table, Column, DataFile, DeleteFile, Statistics, Scheduled, Catalog}
 use Rattle.layout.specs.Names.{isName, sameName}
 use Rattle.layout.specs.Types.{signed, isType, inType, boundAtMost}
-use Rattle.layout.specs.Words.{Words, load, fits}
+use Rattle.layout.specs.Words.{Words, load, positionsBefore, capacity, within, fits}
 use Rattle.ducklake.specs.Kinds.{isKind}
 use Rattle.ducklake.specs.Liveness.{live, liveAtSome, latestOf, latest, columnsAt}
+use Rattle.ducklake.specs.Refusals.{need}
 
 -- "Ids, next ids, row numbers, column orders and schema versions are at most 2^62."
 abbrev pub inLimit : ℕ → Bool
@@ -259,3 +260,24 @@ soundCatalog C =
 -- 'Sound means'
 unfoldable pub sound : Words → Counts → Bool
 sound w c = fits w c && soundCatalog (load w c)
+
+-- "the counts add up to the used positions"
+abbrev pub positionsAddUp : Words → Counts → Bool
+positionsAddUp w c = eqb (positionsBefore (w .deleteFiles) (c .«delete_files»)) (c .positions)
+
+-- which line of 'Sound tables', counted from 1, is the first that doesn't hold; 0 where all hold. The limit of 'The lent tables', "A table has 1 to 16 live
+-- columns at each retained snapshot where it lives.", is in none of the ten lines and comes after them, as 11.
+unfoldable pub firstUnsound : Words → Counts → ℕ
+firstUnsound w c =
+    need 1 (within c (capacity w) && fieldsInRange (load w c))
+    (need 2 (snapshotsRise (load w c .snapshots))
+    (need 3 (livesSound (load w c))
+    (need 4 (idsAscend (load w c))
+    (need 5 (idsBelowNext (load w c) && filesDistinct (load w c))
+    (need 6 (livesNest (load w c))
+    (need 7 (namesApart (load w c))
+    (need 8 (positionsAddUp w c && deletesSound (load w c))
+    (need 9 (rowRangesSound (load w c))
+    (need 10 (statisticsSound (load w c))
+    (need 11 (columnCountsSound (load w c))
+    0))))))))))

@@ -14,12 +14,12 @@ use compaction::flags::is_flagged;
 use compaction::words::clear_words;
 use compaction::words::keep_records;
 use compaction::words::move_words;
+use file_records::delete_file::delete_file_delete_count;
 use layout::number::NAME_SIZE;
 use layout::number::TABLE_LIMIT;
 use layout::record::DeleteFileRecord;
 use layout::record::SnapshotRecord;
 use layout::record::StatisticsRecord;
-use records::delete_file::delete_file_delete_count;
 
 // What stays of each table; how many records are left. The snapshots that are not listed:
 pub fn expire_snapshots(snapshots: &mut [u64], n: usize, ids: &[u64]) -> usize

@@ -12,19 +12,6 @@ use Rattle.lists.specs.Lists.{all}
 use Rattle.lists.proofs.Windows.{rest-step, part-step, part-end, getD-padded}
 use Rattle.layout.specs.Names.{nameSize, nameAt, isNameByte, isZero, namedThenZero, isName, padded}
 
--- a name byte more, and the first byte that is none
-pub named-first-pass : {b : ℕ} {bs cs : List ℕ} → bs ≡ b ∷ cs → isNameByte b ≡ true → namedThenZero bs ≡ namedThenZero cs
-unfolding namedThenZero
-named-first-pass s e = rw (s, e) refl
-
-pub named-first-fail : {b : ℕ} {bs cs : List ℕ} → bs ≡ b ∷ cs → isNameByte b ≡ false → namedThenZero bs ≡ all isZero bs
-unfolding namedThenZero
-named-first-fail s e = rw (s, e) refl
-
-pub named-none : {bs : List ℕ} → bs ≡ [] → namedThenZero bs ≡ all isZero bs
-unfolding namedThenZero all
-named-none s = rw s refl
-
 module _ (run : List ℕ) (i : ℕ) (fits : nameSize * i + nameSize ≤ length run) where
   first : getD (nameAt run i) 0 0 ≡ getD run (nameSize * i) 0
   first = rw (getD-take nameSize (drop (nameSize * i) run) 0 0 (omega arith), getD-drop, add-zero) refl

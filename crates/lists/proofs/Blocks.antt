@@ -17,12 +17,6 @@ use Rattle.lists.proofs.Places.{from-split, in-from}
 use Rattle.lists.proofs.Selections.{map-map, all-append, filter-append, filter-none, filter-all, filter-ext}
 use Rattle.lists.proofs.Search.{less-below, more-above, below-within}
 
--- a test that all places from m on pass
-pub all-cut : {A : Type 0} (f : ℕ → A) (p : A → Bool) (i m n : ℕ) → i ≤ m → m ≤ n → ((j : ℕ) → m ≤ j → j < n → p (f j) ≡ true) → all p (from f i n) ≡ all p (from f i m)
-all-cut f p i m n h k e =
-    ap (all p) (from-split f i m n h k) ∙ (all-append p (from f i m) (from f m n)
-    ∙ rw (in-all p (from f m n) (λ x l. let r = in-from f m n l in ap p (r .3) ∙ e (r .0) (r .1) (r .2)), and-true) refl)
-
 -- numbers that never fall: those equal to k stand together, from the count of smaller ones up to the count of those not greater
 module _ (f : ℕ → ℕ) (k n a e : ℕ) (c : chained leb (map f (range 0 n)) ≡ true)
     (low : a ≡ count (λ y. ltb y k) (map f (range 0 n))) (high : e ≡ count (λ y. leb y k) (map f (range 0 n))) where
@@ -65,9 +59,3 @@ module _ {A : Type 0} (f : ℕ → A) (key : A → ℕ) (k n a e : ℕ) (T : Tog
   filter-key =
       filter-ext _ _ (map f (range 0 n)) (λ x m. sym (and-true (eqb (key x) k)))
       ∙ (filter-block (λ x. true) ∙ filter-all (λ x. true) (from f a e) (λ x m. refl))
-
-  -- how many they are
-  pub count-together : count (λ y. eqb y k) (map (λ i. key (f i)) (range 0 n)) ≡ e - a
-  count-together =
-      ap (count (λ y. eqb y k)) (sym (map-map key f (range 0 n)))
-      ∙ (count-map (λ y. eqb y k) key (map f (range 0 n)) ∙ (sym (filter-length (λ x. eqb (key x) k) (map f (range 0 n))) ∙ (ap length filter-key ∙ from-length f a e)))

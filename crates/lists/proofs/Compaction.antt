@@ -110,12 +110,3 @@ pub rows-count : {X : Type 0} (size k : ℕ) (p : X → Bool) (q : ℕ → Bool)
 rows-count size k p q f n h e s =
     eq-of-mul-eq-mul-left size h k (length (filter q (range 0 n))) (s .count ∙ (ap sum (sym (map-same (λ _. size) size (filter q (range 0 n)) 0 (λ x m. refl))) ∙ sizes-sum (rowPieces size) (length (filter q (range 0 n)))))
     ∙ sym (ap length (filter-map-ext q p f (range 0 n) e) ∙ length-map (filter q (range 0 n)) f)
-
--- a table of which the records at places that pass q stay
-pub table-compacted : {A X : Type 0} (L : Layout A) (F : Lawful L) (row : X → A) (p : X → Bool) (q : ℕ → Bool) (f : ℕ → X) (w : List ℕ) (n : ℕ) {r : ℕ} {v : List ℕ}
-    → L .size * n ≤ length w → ((j : ℕ) → In j (range 0 n) → row (f j) ≡ at L w j) → ((j : ℕ) → In j (range 0 n) → p (f j) ≡ q j)
-    → Compacted (rowPieces (L .size)) q n w r v → v ≡ replace w (L .size * n) (flatMap (L .words) (map row (filter p (map f (range 0 n)))))
-table-compacted L F row p q f w n h e d s =
-    pieces-compacted (rowPieces (L .size)) p q (λ x. L .words (row x)) f w n d
-    (λ j m. ap (L .words) (e j m) ∙ words-at L F w j (record-fits (L .size) (rw zero-add at (in-range 0 n m .1)) h)) s
-    ∙ ap (replace w (L .size * n)) (sym (flatMap-map (λ x. L .words (row x)) (L .words) row (filter p (map f (range 0 n))) (λ x m. refl)))

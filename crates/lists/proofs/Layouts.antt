@@ -60,12 +60,6 @@ module _ {A : Type 0} (L : Layout A) (F : Lawful L) where
   pub table-kept : (w : List ℕ) (n : ℕ) → L .size * n ≤ length w → replace w (L .size * n) (flatMap (L .words) (table L w n)) ≡ w
   table-kept w n h = ap (replace w (L .size * n)) (words-of-table w n h) ∙ replace-kept w (L .size * n) h
 
-  -- a record more, behind the first n
-  pub replace-append : (w : List ℕ) (n : ℕ) (r : A) → L .size * n ≤ length w
-      → replace w (L .size * n) (flatMap (L .words) (table L w n ++ (r ∷ []))) ≡ overwrite w (L .size * n) (L .words r)
-  unfolding flatMap
-  replace-append w n r h = rw (flatMap-append, words-of-table w n h, append-nil) (replace-more w (L .size * n) (L .words r) h)
-
   -- records that were written are read
   read-of-words : (rs : List A) (w t : List ℕ) (i : ℕ) → drop (L .size * i) w ≡ flatMap (L .words) rs ++ t → map (at L w) (range i (length rs)) ≡ rs
   unfolding flatMap range

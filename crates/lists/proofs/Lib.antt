@@ -2,7 +2,6 @@ pub mod Blocks
 pub mod Compaction
 pub mod Counts
 pub mod Flags
-pub mod Hashes
 pub mod Insertion
 pub mod Keys
 pub mod Layouts

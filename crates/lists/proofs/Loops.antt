@@ -128,25 +128,6 @@ module _ {A : Type 0} (f : ℕ → A) where
     unfolding pairwise
     pairwise-end i n h = rw (from-end i n h) refl
 
-    -- a loop that goes down, from n to 0: k is the place below i
-
-    pub pairwise-below : (i k n : ℕ) → i ≡ k + 1 → i ≤ n → all (r (f k)) (from f (k + 1) n) ≡ true → pairwise r (from f i n) ≡ true → pairwise r (from f k n) ≡ true
-    unfolding pairwise
-    pairwise-below i k n p h e q = rw (from-step k n (omega arith), e, ← p, q) refl
-
-    pairwise-earlier : (i n : ℕ) → i ≤ n → pairwise r (from f i n) ≡ false → pairwise r (from f 0 n) ≡ false
-    unfolding pairwise
-    pairwise-earlier zero n h e = e
-    pairwise-earlier (suc i) n h e = pairwise-earlier i n (omega arith) (rw (from-step i n (omega arith), add-one i, e, and-false) refl)
-
-    pub pairwise-breaks : (i k n : ℕ) → i ≡ k + 1 → i ≤ n → all (r (f k)) (from f (k + 1) n) ≡ false → pairwise r (map f (range 0 n)) ≡ false
-    unfolding pairwise
-    pairwise-breaks i k n p h e = pairwise-start n ∙ pairwise-earlier k n (omega arith) (rw (from-step k n (omega arith), e) refl)
-
-    pub pairwise-done : (i n : ℕ) → i ≤ 0 → pairwise r (from f i n) ≡ true → pairwise r (map f (range 0 n)) ≡ true
-    pairwise-done zero n h e = pairwise-start n ∙ e
-    pairwise-done (suc i) n h e = absurd (omega (arith, h))
-
     pub chained-end : (i n : ℕ) → n ≤ i + 1 → chained r (from f i n) ≡ true
     unfolding chained
     chained-end i n h = chained-short r (from f i n) (rw (length-map, length-range) (omega arith))
@@ -271,40 +252,3 @@ module _ {A : Type 0} (L : Layout A) (F : Lawful L) where
     pub mapped-end : (w : List ℕ) (i : ℕ) → n ≤ i → mapped w i ≡ w
     unfolding flatMap mapped
     mapped-end w i h = rw (from-end (at L w) i n h) (overwrite-none w _)
-
-  -- a loop that keeps the records that pass p, closing the gaps: what the run and the left-over come to from the turn i on, with k kept
-  module _ (p : A → Bool) (n : ℕ) where
-    pub kept : List ℕ → ℕ → ℕ → List ℕ × ℕ
-    unfolding filter
-    kept w k i =
-        (replace w (L .size * n) (take (L .size * k) w ++ flatMap (L .words) (filter p (from (at L w) i n))), k + length (filter p (from (at L w) i n)))
-
-    pub kept-start : (w : List ℕ) → _≡_ {A = List ℕ × ℕ} (replace w (L .size * n) (flatMap (L .words) (filter p (table L w n))), length (filter p (table L w n))) (kept w 0 0)
-    unfolding kept filter
-    kept-start w = rw (mul-zero, zero-add, from-all (at L w) n) refl
-
-    pub kept-pass : (w v : List ℕ) (k i : ℕ) → k ≤ i → i < n → L .size * n ≤ length w → p (at L w i) ≡ true
-        → v ≡ overwrite w (L .size * k) (L .words (at L w i)) → kept w k i ≡ kept v (k + 1) (i + 1)
-    unfolding flatMap kept
-    kept-pass w v k i g h s t e =
-        let l : length (L .words (at L w i)) ≡ L .size = F .words-length _ in
-        let r : L .size * k + L .size ≤ L .size * (i + 1) = omega (arith, mul-le-mul-left (L .size) g) in
-        let m : L .size * (i + 1) ≤ L .size * n = omega (arith, mul-le-mul-left (L .size) h) in
-        let f : take (L .size * (k + 1)) (overwrite w (L .size * k) (L .words (at L w i))) ≡ take (L .size * k) w ++ L .words (at L w i)
-        = rw (add-one, mul-suc) (rw l at (overwrite-front w (L .size * k) (L .words (at L w i)) (omega arith))) in
-        rw (
-          e,
-          filter-pass (at L w) p i n h t,
-          from-past L F w (L .size * k) (L .words (at L w i)) (i + 1) n (omega arith) (omega arith),
-          f,
-          replace-past w (L .size * k) (L .words (at L w i)) _ (L .size * n) (omega arith) (omega arith),
-        ) (rw (append-assoc, add-one k, suc-add k, add-suc k) refl)
-
-    pub kept-fail : (w : List ℕ) (k i : ℕ) → i < n → p (at L w i) ≡ false → kept w k i ≡ kept w k (i + 1)
-    unfolding flatMap kept
-    kept-fail w k i h t = rw (filter-fail (at L w) p i n h t) refl
-
-    pub kept-end : (w : List ℕ) (k i : ℕ) → n ≤ i → k ≤ n → L .size * n ≤ length w
-        → kept w k i ≡ (overwrite w (L .size * k) (replicate (L .size * n - L .size * k) 0), k)
-    unfolding flatMap kept
-    kept-end w k i h g s = rw (filter-end (at L w) p i n h, append-nil, replace-less w (L .size * n) (L .size * k) (mul-le-mul-left (L .size) g) s, add-zero) refl

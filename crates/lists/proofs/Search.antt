@@ -10,7 +10,7 @@ use borrow.Author.Tests.{lt-ltb, le-ltb, le-leb, ltb-true, ltb-false, leb-true, 
 use lib.Dec.{leb, ltb, eqb}
 use lib.ListN.{length}
 use Rattle.lists.specs.declared.Found.{Found}
-use Rattle.lists.specs.declared.Found.the-variants.{At, Nothing}
+use Rattle.lists.specs.declared.Found.the-variants.{At}
 use Rattle.lists.specs.Lists.{range, any, pairwise, chained, before, count, place}
 use Rattle.lists.specs.Runs.{from, field, fields, pairAt, pairs}
 use Rattle.lists.proofs.Tests.{if, either, or-cases, both, and, same-test, reflects-ltb, reflects-eqb, reflects-not}
@@ -53,13 +53,7 @@ pairs-first size first second run n e =
     chained-maps leb (λ a b. leb (a .0) (b .0)) (field size first run) (pairAt size first second run) (range 0 n) (λ i j. refl)
     ∙ chained-as before (λ a b. leb (a .0) (b .0)) before-first (pairs size first second run n) e
 
--- what ascends differs
-pub ascending-differ : (xs : List ℕ) → chained ltb xs ≡ true → pairwise (λ x y. not (eqb x y)) xs ≡ true
-ascending-differ xs e =
-    reflects-pairwise (λ x y. reflects-not (reflects-eqb x y)) xs .from
-    (pair-as (reflects-chained {R = _<_} reflects-ltb (λ a b c p q. omega arith) xs .to e) (λ x y m n h. λ (s : x ≡ y). omega arith))
-
--- a search by halves for how many are below x: what it comes to between lo and hi
+-- a search for how many are below x: what it comes to between lo and hi
 module _ (f : ℕ → ℕ) (x : ℕ) where
   pub below : ℕ → ℕ → ℕ
   unfolding count
@@ -115,24 +109,6 @@ module _ (f : ℕ → ℕ) (x : ℕ) where
 
       pub below-within : r ≤ n
       below-within = omega (arith, below-start n, below-most 0 n (omega arith))
-
--- a number among those that ascend strictly stands where those below it end, or nowhere
-module _ (f : ℕ → ℕ) (x n r : ℕ) (e : chained ltb (map f (range 0 n)) ≡ true) (c : r ≡ count (λ y. ltb y x) (map f (range 0 n))) where
-  less : (j : ℕ) → j < r → f j < x
-  less = less-below f x n (ascending-weakly (map f (range 0 n)) e) r c
-
-  pub sought-past : n ≤ r → place (λ y. eqb y x) 0 (map f (range 0 n)) ≡ Nothing
-  sought-past h = place-nowhere f (λ y. eqb y x) n (λ j k. ne-eqb (f j) x (λ (t : f j ≡ x). omega (arith, less j (omega arith))))
-
-  pub sought-here : r < n → f r ≡ x → place (λ y. eqb y x) 0 (map f (range 0 n)) ≡ At r
-  sought-here h s = place-first f (λ y. eqb y x) n r h (eq-eqb (f r) x s) (λ j k. ne-eqb (f j) x (λ (t : f j ≡ x). omega (arith, less j k)))
-
-  pub sought-not : r < n → (f r ≡ x → ⊥) → place (λ y. eqb y x) 0 (map f (range 0 n)) ≡ Nothing
-  sought-not h s =
-      place-nowhere f (λ y. eqb y x) n (λ j k. ne-eqb (f j) x (λ (t : f j ≡ x).
-      if (ltb j r) (λ b. omega (arith, less j (ltb-true j r b)))
-      (λ b. if (ltb r j) (λ d. omega (arith, ascending f n e r j (ltb-true r j d) k, more-above f x n (ascending-weakly (map f (range 0 n)) e) r c r (omega arith) h))
-      (λ d. let i : j ≡ r = omega (arith, ltb-false j r b, ltb-false r j d) in s (ap f (sym i) ∙ t)))))
 
 -- records whose keys ascend: one of each key
 pub keyed-one : {A : Type 0} (f : ℕ → A) (key : A → ℕ) (n : ℕ) → chained ltb (map (λ i. key (f i)) (range 0 n)) ≡ true → {x y : A}

@@ -217,19 +217,6 @@ pairwise-append r (x ∷ xs) ys =
     swap true b false d e = and-false b
     swap false b c d e = refl
 
--- three lists, each by itself and each with each
-pub pairwise-three : {A : Type 0} (r : A → A → Bool) (xs ys zs : List A)
-    → pairwise r (xs ++ (ys ++ zs)) ≡ (pairwise r xs && pairwise r ys && pairwise r zs && all (λ x. all (r x) ys) xs && all (λ x. all (r x) zs) xs && all (λ y. all (r y) zs) ys)
-pairwise-three r xs ys zs =
-    rw (pairwise-append r xs (ys ++ zs), pairwise-append r ys zs, all-all-append r xs ys zs)
-    (swap (pairwise r xs) (pairwise r ys) (pairwise r zs) (all (λ x. all (r x) ys) xs) (all (λ x. all (r x) zs) xs) (all (λ y. all (r y) zs) ys))
-  where
-    swap : (a b c d e f : Bool) → (a && ((b && (c && f)) && (d && e))) ≡ (a && b && c && d && e && f)
-    swap true true true d e f = and-comm f (d && e)
-    swap true true false d e f = refl
-    swap true false c d e f = refl
-    swap false b c d e f = refl
-
 -- two tests that are one at every place
 pub all-maps : {A B C : Type 0} (p : A → Bool) (q : B → Bool) (f : C → A) (g : C → B) (xs : List C) → ((x : C) → p (f x) ≡ q (g x)) → all p (map f xs) ≡ all q (map g xs)
 all-maps p q f g xs h = all-map p f xs ∙ (all-ext _ _ xs (λ x m. h x) ∙ sym (all-map q g xs))
@@ -300,11 +287,6 @@ pub not-any-all : {A : Type 0} (p : A → Bool) (xs : List A) → not (any p xs)
 unfolding all any
 not-any-all p [] = refl
 not-any-all p (x ∷ xs) = sym (not-or (p x) (any p xs)) ∙ ap (λ b. not (p x) && b) (not-any-all p xs)
-
--- no number of the second list is one of the first
-pub has-none : (xs ys : List ℕ) → all (λ y. not (has y xs)) ys ≡ all (λ x. all (λ y. not (eqb x y)) ys) xs
-has-none xs ys =
-    all-ext _ _ ys (λ y m. not-any-all (eqb y) xs ∙ all-ext _ _ xs (λ x n. ap not (eqb-swap y x))) ∙ sym (all-swap (λ x y. not (eqb x y)) xs ys)
 
 -- a list that is not empty has some element
 pub any-some : {A : Type 0} (xs : List A) → 0 < length xs → any (λ x. true) xs ≡ true

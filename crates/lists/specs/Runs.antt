@@ -1,5 +1,5 @@
 -- Runs of words, and records of one size in them.
-use Prim.Native.Nat.{ℕ, _+_, _*_, _-_, _%_, _≤_, _<_, max}
+use Prim.Native.Nat.{ℕ, _+_, _*_, _-_, _≤_, _<_, max}
 use mathlib.Core.Path.{_≡_}
 use mathlib.Core.List.{List, _++_, map, flatMap}
 use mathlib.Core.Bool.{Bool, cond, _&&_}
@@ -57,13 +57,6 @@ pub record PartOf (run part : RefT (List ℕ)) (k n : ℕ) : Type 0 where
   pub block : part .ptr .0 ≡ run .ptr .0
   pub start : part .ptr .1 ≡ run .ptr .1 + wordBytes * k
   pub words : part .now ≡ take n (drop k (run .now))
-
--- the hashes of some numbers, a 1 at the place of each: a hash is a remainder, so different numbers can have one hash
-abbrev pub hashCount : ℕ
-hashCount = 65536
-
-unfoldable pub hasHash : List ℕ → ℕ → Bool
-hasHash hashes x = eqb (getD hashes (x % hashCount) 0) 1
 
 -- of the first n places those where f is k are the places from a up to e
 pub record Together (f : ℕ → ℕ) (n k a e : ℕ) : Type 0 where

@@ -1,6 +1,6 @@
 -- What is live at some retained snapshot: live at the first one from its begin on, since a life is an interval.
 use Prim.Native.Nat.{ℕ, _≤_, _<_}
-use mathlib.Core.Path.{_≡_, refl, _∙_}
+use mathlib.Core.Path.{_≡_, refl, sym, ap, _∙_}
 use mathlib.Core.Bool.{true, false, _||_}
 use mathlib.Core.List.{List, map}
 use native.Mathlib.Omega.{arith}
@@ -9,6 +9,7 @@ use lib.Dec.{leb, ltb, eqb}
 use Rattle.lists.specs.Lists.{range, any, chained, count}
 use Rattle.lists.specs.Runs.{field, fields}
 use Rattle.lists.proofs.Tests.{either, both, and, or-cases, or-left, or-right}
+use Rattle.lists.proofs.Members.{in-any, in-map, range-in}
 use Rattle.lists.proofs.Search.{ascending-weakly, any-past, any-first}
 use Rattle.lists.proofs.Selections.{any-maps}
 use Rattle.layout.specs.Catalog.{absent, Versioned}
@@ -34,6 +35,10 @@ module _ {A : Type 0} (v : Versioned A) where
   pub live-ids : (run : List ℕ) (n : ℕ) → liveAtSome (snapshotsIn run n) v ≡ any (λ s. live s v) (fields snapshotSize snapshotIdWord run n)
   unfolding field liveAtSome
   live-ids run n = any-maps (λ s. live (s .id) v) (λ s. live s v) (snapshotAt run) (field snapshotSize snapshotIdWord run) (range 0 n) (λ _. refl)
+
+  -- live at the one at m
+  pub live-at : (f : ℕ → ℕ) (n m : ℕ) {x : ℕ} → m < n → x ≡ f m → live x v ≡ true → any (λ s. live s v) (map f (range 0 n)) ≡ true
+  live-at f n m h e l = in-any (λ s. live s v) (in-map f (range-in 0 n m (omega arith) (omega arith))) (ap (λ s. live s v) (sym e) ∙ l)
 
   -- of ascending numbers the first from its begin on is the one at r, or there is none
   module _ (f : ℕ → ℕ) (n r : ℕ) (e : chained ltb (map f (range 0 n)) ≡ true) (c : r ≡ count (λ s. ltb s (v .begin)) (map f (range 0 n))) where

@@ -7,6 +7,7 @@ use layout::record::ColumnRecord;
 use layout::record::StatisticsRecord;
 use runs::fields::count_below;
 use runs::fields::count_through;
+use runs::probes::even_place;
 
 // The places from `start` up to, and without, `end`.
 pub struct Block {
@@ -14,13 +15,36 @@ pub struct Block {
     pub end: usize,
 }
 
+// The columns of a table, which are sought from the place `near` on.
+pub fn columns_near(columns: &[u64], n: usize, table: CatalogId, near: usize) -> Block
+    requires { ⌜ ColumnsByTable (now columns) n ⌝ }
+    ensures { λ r. ⌜ Together (field columnSize columnTableWord (now (columns .entry))) n (table .0) (r .start) (r .end) ⌝ }
+{
+    let size = ColumnRecord::SIZE;
+    let word = ColumnRecord::TABLE;
+    let start = count_below(columns, size, word, n, table.0, near);
+    let end = count_through(columns, size, word, n, table.0, start);
+    Block { start, end }
+}
+
 // The columns of a table.
 pub fn columns_of(columns: &[u64], n: usize, table: CatalogId) -> Block
     requires { ⌜ ColumnsByTable (now columns) n ⌝ }
     ensures { λ r. ⌜ Together (field columnSize columnTableWord (now (columns .entry))) n (table .0) (r .start) (r .end) ⌝ }
 {
-    let start = count_below(columns, ColumnRecord::SIZE, ColumnRecord::TABLE, n, table.0);
-    let end = count_through(columns, ColumnRecord::SIZE, ColumnRecord::TABLE, n, table.0);
+    let near = even_place(columns, ColumnRecord::SIZE, ColumnRecord::TABLE, n, table.0);
+    columns_near(columns, n, table, near)
+}
+
+// The statistics of a data file, which are sought from the place `near` on.
+pub fn statistics_near(statistics: &[u64], n: usize, data_file: FileId, near: usize) -> Block
+    requires { ⌜ StatisticsByFile (now statistics) n ⌝ }
+    ensures { λ r. ⌜ Together (field statisticsSize statisticsDataFileWord (now (statistics .entry))) n («data_file» .0) (r .start) (r .end) ⌝ }
+{
+    let size = StatisticsRecord::SIZE;
+    let word = StatisticsRecord::DATA_FILE;
+    let start = count_below(statistics, size, word, n, data_file.0, near);
+    let end = count_through(statistics, size, word, n, data_file.0, start);
     Block { start, end }
 }
 
@@ -29,19 +53,13 @@ pub fn statistics_of(statistics: &[u64], n: usize, data_file: FileId) -> Block
     requires { ⌜ StatisticsByFile (now statistics) n ⌝ }
     ensures { λ r. ⌜ Together (field statisticsSize statisticsDataFileWord (now (statistics .entry))) n («data_file» .0) (r .start) (r .end) ⌝ }
 {
-    let start = count_below(
+    let size = StatisticsRecord::SIZE;
+    let near = even_place(
         statistics,
-        StatisticsRecord::SIZE,
+        size,
         StatisticsRecord::DATA_FILE,
         n,
         data_file.0,
     );
-    let end = count_through(
-        statistics,
-        StatisticsRecord::SIZE,
-        StatisticsRecord::DATA_FILE,
-        n,
-        data_file.0,
-    );
-    Block { start, end }
+    statistics_near(statistics, n, data_file, near)
 }

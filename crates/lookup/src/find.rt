@@ -19,6 +19,7 @@ use lists::Found;
 use records::snapshot::snapshot_at;
 use runs::fields::count_through;
 use runs::fields::find_field;
+use runs::probes::even_place;
 
 // The place of the record of an id.
 pub fn find_snapshot(snapshots: &[u64], n: usize, id: SnapshotId) -> Found
@@ -81,7 +82,9 @@ pub fn latest_by(snapshots: &[u64], n: usize, t: u64) -> Found
     requires { ⌜ SnapshotsById (now snapshots) n × SnapshotsByTime (now snapshots) n ⌝ }
     ensures { λ r. ⌜ LatestBy (now (snapshots .entry)) n t r ⌝ }
 {
-    let k = count_through(snapshots, SnapshotRecord::SIZE, SnapshotRecord::TIME, n, t);
+    let size = SnapshotRecord::SIZE;
+    let near = even_place(snapshots, size, SnapshotRecord::TIME, n, t);
+    let k = count_through(snapshots, size, SnapshotRecord::TIME, n, t, near);
     if k == 0 {
         return Found::Nothing;
     }

@@ -21,6 +21,7 @@ use lists::Found;
 use runs::fields::count_below;
 use runs::fields::field_at;
 use runs::fields::find_field;
+use runs::probes::even_place;
 
 // Whether a snapshot is retained.
 pub fn is_retained(snapshots: &[u64], n: usize, s: SnapshotId) -> bool
@@ -34,13 +35,21 @@ pub fn is_retained(snapshots: &[u64], n: usize, s: SnapshotId) -> bool
     }
 }
 
-// Whether a record of that life is live at some of the numbers that n records of `size` words have in their word `word`: at the first one from
-// its begin on, or at none.
+// Whether a record of that life is live at some of the numbers that n records of `size` words have in their word `word`: most often at the last one;
+// else at the first one from its begin on, or at none.
 pub fn is_live_among(w: &[u64], size: usize, word: usize, n: usize, l: Life) -> bool
     requires { ⌜ ById size word (now w) n ⌝ }
     ensures { λ r. ⌜ r ≡ liveAmong (fields size word (now (w .entry)) n) (withLife l) ⌝ }
 {
-    let i = count_below(w, size, word, n, l.begin.0);
+    if 0 < n {
+        let last = field_at(w, size, word, n - 1);
+        let now = is_live(l, SnapshotId(last));
+        if now {
+            return true;
+        }
+    }
+    let near = even_place(w, size, word, n, l.begin.0);
+    let i = count_below(w, size, word, n, l.begin.0, near);
     if n <= i {
         return false;
     }

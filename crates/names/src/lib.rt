@@ -1,11 +1,16 @@
 // Names in their places, and as arguments.
 ghost use mathlib.Core.Path.{_≡_};
-ghost use Prim.Native.Nat.{_+_, _*_, _≤_};
-ghost use lib.ListN.{length, getD, drop};
-ghost use Rattle.lists.specs.Lists.{all};
+ghost use Prim.Native.Nat.{_+_, _*_, _≤_, _<_};
+ghost use lib.ListN.{length, getD};
 ghost use Rattle.lists.specs.Runs.{overwrite};
-ghost use Rattle.layout.specs.Names.{nameSize, nameAt, isNameByte, isZero, namedThenZero, isName, isNameArgument, padded, sameName};
+ghost use Rattle.layout.specs.Names.{nameSize, nameAt, isNameByte, isName, isNameArgument, padded, sameName};
+ghost use Rattle.names.specs.NameWords.{byteCount, nameWordCount, nameWord};
 use layout::number::NAME_SIZE;
+
+// A word holds so many bytes, and a byte one of so many numbers.
+const WORD_BYTES: usize = 8;
+
+const BYTE_COUNT: u64 = 256;
 
 // An ASCII letter, digit or underscore.
 pub fn is_name_byte(b: u8) -> bool
@@ -14,50 +19,45 @@ pub fn is_name_byte(b: u8) -> bool
     ((48 <= b) & (b <= 57)) | ((65 <= b) & (b <= 90)) | (b == 95) | ((97 <= b) & (b <= 122))
 }
 
-// How many name bytes the place i begins with: the bytes behind them decide whether it holds a name.
-fn name_length(names: &[u8], i: usize) -> usize
-    requires { ⌜ nameSize * i + nameSize ≤ length (now names) ⌝ }
-    ensures { λ r. ⌜ namedThenZero (nameAt (now (names .entry)) i) ≡ all isZero (drop r (nameAt (now (names .entry)) i)) ⌝ }
-{
-    let a = NAME_SIZE * i;
-    let mut k: usize = 0;
-    while k < NAME_SIZE {
-        let ok = is_name_byte(names[a + k]);
-        if !ok {
-            return k;
-        }
-        k += 1;
-    }
-    k
-}
-
-// Whether the place i holds zero bytes alone from its byte `start` on.
-fn is_zero_from(names: &[u8], i: usize, start: usize) -> bool
-    requires { ⌜ nameSize * i + nameSize ≤ length (now names) ⌝ }
-    ensures { λ r. ⌜ r ≡ all isZero (drop start (nameAt (now (names .entry)) i)) ⌝ }
-{
-    let a = NAME_SIZE * i;
-    let mut k = start;
-    while k < NAME_SIZE {
-        if names[a + k] != 0 {
-            return false;
-        }
-        k += 1;
-    }
-    true
-}
-
-// Whether the place i holds a name: 1 to 32 name bytes, then zero bytes.
+// Whether the place i holds a name: 1 to 32 name bytes, then zero bytes. Each byte is zero, or a name byte behind one that is not zero; no byte ends
+// the loop, so that many are judged at a time.
 pub fn is_name(names: &[u8], i: usize) -> bool
     requires { ⌜ nameSize * i + nameSize ≤ length (now names) ⌝ }
     ensures { λ r. ⌜ r ≡ isName (nameAt (now (names .entry)) i) ⌝ }
 {
     let a = NAME_SIZE * i;
-    if names[a] == 0 {
-        return false;
+    let mut before = names[a];
+    let mut ok = before != 0;
+    let mut k: usize = 0;
+    while k < NAME_SIZE {
+        let b = names[a + k];
+        let named = is_name_byte(b);
+        ok = ok & ((named & (before != 0)) | (b == 0));
+        before = b;
+        k += 1;
     }
-    let k = name_length(names, i);
-    is_zero_from(names, i, k)
+    ok
+}
+
+fn wide(b: u8) -> u64
+    ensures { λ r. ⌜ (r ≡ b) × (r < byteCount) ⌝ }
+{
+    b as u64
+}
+
+// Eight bytes of the place i, from its byte 8k on, as one word: the words of two names compare as their bytes do.
+pub fn name_word(names: &[u8], i: usize, k: usize) -> u64
+    requires { ⌜ (nameSize * i + nameSize ≤ length (now names)) × (k < nameWordCount) ⌝ }
+    ensures { λ r. ⌜ r ≡ nameWord (nameAt (now (names .entry)) i) k ⌝ }
+{
+    let a = NAME_SIZE * i + WORD_BYTES * k;
+    let mut word: u64 = 0;
+    let mut j: usize = 0;
+    while j < WORD_BYTES {
+        word = BYTE_COUNT * word + wide(names[a + j]);
+        j += 1;
+    }
+    word
 }
 
 // Whether a name is well formed as an argument: 1 to 32 name bytes.

@@ -1,10 +1,5 @@
-// The records of the lent tables, read and written, a file each; column types and signed values. Nothing else knows at which word a field lies.
+// The records of snapshots, schemas, tables and columns, read and written, a file each. Nothing else knows at which word a field lies.
 pub mod column;
-pub mod data_file;
-pub mod delete_file;
-pub mod scheduled;
 pub mod schema;
 pub mod snapshot;
-pub mod statistics;
 pub mod table;
-pub mod value;

@@ -5,7 +5,11 @@ ghost use lib.Dec.{leb, ltb, eqb};
 ghost use lib.ListN.{length};
 ghost use Rattle.lists.specs.Lists.{all, chained, count, place};
 ghost use Rattle.lists.specs.Runs.{field, fields};
+use crate::probes::even_place;
+use crate::probes::probe;
+use crate::probes::step_towards;
 use lists::Found;
+use std::num::wrapping_add_usize;
 
 // The word `at` of each record of a run, records of `size` words.
 pub fn field_at(w: &[u64], size: usize, at: usize, i: usize) -> u64
@@ -65,16 +69,22 @@ pub fn fields_between(w: &[u64], size: usize, at: usize, n: usize, low: u64, hig
     true
 }
 
-// How many are below x, where they never fall: by halves.
-pub fn count_below(w: &[u64], size: usize, at: usize, n: usize, x: u64) -> usize
+// How many are below x, where they never fall: a search from the place `near` on.
+fn count_below_from(w: &[u64], size: usize, at: usize, n: usize, x: u64, near: usize) -> usize
     requires { ⌜ (size * n ≤ length (now w)) × (at < size) × (chained leb (fields size at (now w) n) ≡ true) ⌝ }
     ensures { λ r. ⌜ r ≡ count (λ y. ltb y x) (fields size at (now (w .entry)) n) ⌝ }
 {
     let mut lo: usize = 0;
     let mut hi = n;
+    let mut last = near;
+    let mut step: usize = 0;
+    let mut reach: usize = 1;
     while lo < hi {
-        let m = lo + (hi - lo) / 2;
+        let m = probe(lo, hi, last, step);
         let y = field_at(w, size, at, m);
+        last = m;
+        step = step_towards(x, y, reach);
+        reach = wrapping_add_usize(reach, reach);
         if y < x {
             lo = m + 1;
         } else {
@@ -84,16 +94,37 @@ pub fn count_below(w: &[u64], size: usize, at: usize, n: usize, x: u64) -> usize
     lo
 }
 
+// The same: most often that is `near`.
+pub fn count_below(w: &[u64], size: usize, at: usize, n: usize, x: u64, near: usize) -> usize
+    requires { ⌜ (size * n ≤ length (now w)) × (at < size) × (chained leb (fields size at (now w) n) ≡ true) ⌝ }
+    ensures { λ r. ⌜ r ≡ count (λ y. ltb y x) (fields size at (now (w .entry)) n) ⌝ }
+{
+    if (0 < near) & (near < n) {
+        let y = field_at(w, size, at, near - 1);
+        let z = field_at(w, size, at, near);
+        if (y < x) & (x <= z) {
+            return near;
+        }
+    }
+    count_below_from(w, size, at, n, x, near)
+}
+
 // How many are at most x.
-pub fn count_through(w: &[u64], size: usize, at: usize, n: usize, x: u64) -> usize
+fn count_through_from(w: &[u64], size: usize, at: usize, n: usize, x: u64, near: usize) -> usize
     requires { ⌜ (size * n ≤ length (now w)) × (at < size) × (chained leb (fields size at (now w) n) ≡ true) ⌝ }
     ensures { λ r. ⌜ r ≡ count (λ y. leb y x) (fields size at (now (w .entry)) n) ⌝ }
 {
     let mut lo: usize = 0;
     let mut hi = n;
+    let mut last = near;
+    let mut step: usize = 0;
+    let mut reach: usize = 1;
     while lo < hi {
-        let m = lo + (hi - lo) / 2;
+        let m = probe(lo, hi, last, step);
         let y = field_at(w, size, at, m);
+        last = m;
+        step = step_towards(x, y, reach);
+        reach = wrapping_add_usize(reach, reach);
         if y <= x {
             lo = m + 1;
         } else {
@@ -103,18 +134,61 @@ pub fn count_through(w: &[u64], size: usize, at: usize, n: usize, x: u64) -> usi
     lo
 }
 
-// The place of x, where they ascend strictly.
+// The same: most often `near` has the last of them.
+pub fn count_through(w: &[u64], size: usize, at: usize, n: usize, x: u64, near: usize) -> usize
+    requires { ⌜ (size * n ≤ length (now w)) × (at < size) × (chained leb (fields size at (now w) n) ≡ true) ⌝ }
+    ensures { λ r. ⌜ r ≡ count (λ y. leb y x) (fields size at (now (w .entry)) n) ⌝ }
+{
+    let next = wrapping_add_usize(near, 1);
+    if (0 < next) & (next < n) {
+        let y = field_at(w, size, at, next - 1);
+        let z = field_at(w, size, at, next);
+        if (y <= x) & (x < z) {
+            return next;
+        }
+    }
+    count_through_from(w, size, at, n, x, near)
+}
+
+// The place of x, where they ascend strictly: a search from the place `near` on.
+fn find_from(w: &[u64], size: usize, at: usize, n: usize, x: u64, near: usize) -> Found
+    requires { ⌜ (size * n ≤ length (now w)) × (at < size) × (chained ltb (fields size at (now w) n) ≡ true) ⌝ }
+    ensures { λ r. ⌜ r ≡ place (λ y. eqb y x) 0 (fields size at (now (w .entry)) n) ⌝ }
+{
+    let mut lo: usize = 0;
+    let mut hi = n;
+    let mut last = near;
+    let mut step: usize = 0;
+    let mut reach: usize = 1;
+    while lo < hi {
+        let m = probe(lo, hi, last, step);
+        let y = field_at(w, size, at, m);
+        if y == x {
+            return Found::At(m);
+        }
+        last = m;
+        step = step_towards(x, y, reach);
+        reach = wrapping_add_usize(reach, reach);
+        if x < y {
+            hi = m;
+        } else {
+            lo = m + 1;
+        }
+    }
+    Found::Nothing
+}
+
+// The same: most ids are where they would be if none were missing.
 pub fn find_field(w: &[u64], size: usize, at: usize, n: usize, x: u64) -> Found
     requires { ⌜ (size * n ≤ length (now w)) × (at < size) × (chained ltb (fields size at (now w) n) ≡ true) ⌝ }
     ensures { λ r. ⌜ r ≡ place (λ y. eqb y x) 0 (fields size at (now (w .entry)) n) ⌝ }
 {
-    let i = count_below(w, size, at, n, x);
-    if n <= i {
-        return Found::Nothing;
+    let near = even_place(w, size, at, n, x);
+    if near < n {
+        let y = field_at(w, size, at, near);
+        if y == x {
+            return Found::At(near);
+        }
     }
-    let y = field_at(w, size, at, i);
-    if y == x {
-        return Found::At(i);
-    }
-    Found::Nothing
+    find_from(w, size, at, n, x, near)
 }

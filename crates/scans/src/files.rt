@@ -14,6 +14,9 @@ use crate::answer::Answer;
 use crate::deletions::find_live_delete_files;
 use crate::filter::Filter;
 use crate::filter::file_passes;
+use file_records::data_file::data_file_id;
+use file_records::data_file::data_file_table;
+use file_records::delete_file::delete_file_id;
 use layout::number::ABSENT;
 use layout::number::CatalogId;
 use layout::number::SnapshotId;
@@ -24,9 +27,6 @@ use layout::outcome::SHORT_ANSWER_AREA;
 use layout::record::DataFileRecord;
 use lookup::life::is_live;
 use lookup::life::life_at;
-use records::data_file::data_file_id;
-use records::data_file::data_file_table;
-use records::delete_file::delete_file_id;
 
 // A file list has so many words a file: the file's id, and the delete file's or ABSENT.
 const LISTED_SIZE: usize = 2;

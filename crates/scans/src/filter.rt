@@ -5,11 +5,11 @@ ghost use Rattle.layout.specs.Words.{statisticsIn};
 ghost use Rattle.ducklake.specs.Readings.{admits, kept};
 ghost use Rattle.lookup.specs.Order.{StatisticsByFile};
 ghost use Rattle.scans.specs.Filters.{passes};
+use file_records::statistics::statistics_at;
 use layout::number::FileId;
 use layout::record::StatisticsRecord;
 use lookup::block::statistics_of;
-use records::statistics::statistics_at;
-use records::value::to_signed;
+use values::to_signed;
 
 // Which files a list keeps: every one, or those that may hold a row with `column = scalar`.
 pub enum Filter {

@@ -16,6 +16,8 @@ ghost use Rattle.scans.specs.Rows.{rowsBut, RowsFit, DeletedLocated, Fil
 use crate::answer::Answer;
 use crate::deletions::find_live_delete_files;
 use crate::files::is_in_table;
+use file_records::data_file::data_file_record_count;
+use file_records::data_file::data_file_row_id_start;
 use layout::number::CatalogId;
 use layout::number::RowId;
 use layout::number::SnapshotId;
@@ -25,8 +27,6 @@ use layout::outcome::Counts;
 use layout::outcome::SHORT_ANSWER_AREA;
 use lookup::positions::position_starts;
 use lookup::positions::positions_of;
-use records::data_file::data_file_record_count;
-use records::data_file::data_file_row_id_start;
 
 // The positions of the delete file at a place counted from 1; none for 0.
 fn positions_deleted<'a>(

@@ -1,3 +1,5 @@
+pub mod Crowding
+pub mod Groups
 pub mod KeyOrder
 pub mod Merging
 pub mod Passes

@@ -1,2 +1,3 @@
+pub mod Crowded
 pub mod Keys
 pub mod Sorting

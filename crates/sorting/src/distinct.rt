@@ -4,8 +4,10 @@ ghost use Prim.Native.Nat.{_*_, _≤_};
 ghost use lib.ListN.{length};
 ghost use Rattle.lists.specs.Lists.{range, pairwise, chained};
 ghost use Rattle.sorting.specs.Keys.{sameKey, Keyed};
+use crate::crowded::thin;
 use crate::keys::same_key;
-use crate::sort::sort_places;
+use crate::sort::number;
+use crate::sort::sort;
 
 fn neighbours_differ(keys: &[u64], size: usize, w: &[usize]) -> bool
     requires { ⌜ Keyed size (now keys) (now w) ⌝ }
@@ -23,11 +25,21 @@ fn neighbours_differ(keys: &[u64], size: usize, w: &[usize]) -> bool
     true
 }
 
-// Whether no two keys, as many as w is long, are equal; w and v are scratch.
+// Whether no two of the keys at those places are equal; v is scratch.
+fn places_differ(keys: &[u64], size: usize, w: &mut [usize], v: &mut [usize]) -> bool
+    requires { ⌜ Keyed size (now keys) (now w) × (length (now v) ≡ length (now w)) ⌝ }
+    ensures { λ r. ⌜ r ≡ pairwise (λ i j. not (sameKey size (now (keys .entry)) i j)) (now (w .entry)) ⌝ }
+{
+    sort(keys, size, w, v);
+    neighbours_differ(keys, size, w)
+}
+
+// Whether no two keys, as many as w is long, are equal: those that are alone with their hash need no sort. w and v are scratch.
 pub fn keys_differ(keys: &[u64], size: usize, w: &mut [usize], v: &mut [usize]) -> bool
     requires { ⌜ (size * length (now w) ≤ length (now keys)) × (length (now v) ≡ length (now w)) ⌝ }
     ensures { λ r. ⌜ r ≡ pairwise (λ i j. not (sameKey size (now (keys .entry)) i j)) (range 0 (length (now (w .entry)))) ⌝ }
 {
-    sort_places(keys, size, w, v);
-    neighbours_differ(keys, size, w)
+    number(w);
+    let r = thin(keys, size, size, w, v);
+    places_differ(keys, size, &mut w[..r], &mut v[..r])
 }

@@ -1,18 +1,17 @@
 ghost use mathlib.Core.Path.{_≡_};
-ghost use mathlib.Core.Bool.{true};
-ghost use Rattle.layout.specs.Lent.{lentNow, atEntry};
-ghost use Rattle.layout.specs.Words.{load, fits};
-ghost use Rattle.ducklake.specs.Soundness.{soundCatalog, sound};
+ghost use Rattle.layout.specs.Lent.{atEntry};
+ghost use Rattle.ducklake.specs.Soundness.{sound, firstUnsound};
+use crate::line::FIELDS_LINE;
+use crate::line::SOUND;
 use crate::room::capacity;
 use crate::room::is_within;
-use crate::room::positions_add_up;
-use crate::stages::is_consistent;
-use crate::stages::is_ordered;
-use crate::stages::is_placed;
+use crate::stages::contents_line;
+use crate::stages::records_line;
+use crate::stages::relations_line;
 use layout::outcome::Counts;
 
-// Whether what fits the runs is sound: each stage relies on those before it.
-fn is_sound_catalog(
+// The first line of 'Sound tables' that doesn't hold, or 0: any content of the runs, any counts. A stage relies on those before it.
+pub fn first_unsound(
     snapshots: &[u64],
     schemas: &[u64],
     schema_names: &[u8],
@@ -26,82 +25,8 @@ fn is_sound_catalog(
     statistics: &[u64],
     scheduled: &[u64],
     counts: Counts,
-) -> bool
-    requires { ⌜ fits (lentNow snapshots schemas «schema_names» tables «table_names» columns «column_names»
-        «data_files» «delete_files» positions statistics scheduled) counts ≡ true ⌝ }
-    ensures { λ r. ⌜ r ≡ soundCatalog (load (atEntry snapshots schemas «schema_names» tables «table_names» columns «column_names»
-        «data_files» «delete_files» positions statistics scheduled) counts) ⌝ }
-{
-    let ordered = is_ordered(
-        snapshots,
-        schemas,
-        schema_names,
-        tables,
-        table_names,
-        columns,
-        column_names,
-        data_files,
-        delete_files,
-        positions,
-        statistics,
-        scheduled,
-        counts,
-    );
-    if !ordered {
-        return false;
-    }
-    let placed = is_placed(
-        snapshots,
-        schemas,
-        schema_names,
-        tables,
-        table_names,
-        columns,
-        column_names,
-        data_files,
-        delete_files,
-        positions,
-        statistics,
-        scheduled,
-        counts,
-    );
-    if !placed {
-        return false;
-    }
-    is_consistent(
-        snapshots,
-        schemas,
-        schema_names,
-        tables,
-        table_names,
-        columns,
-        column_names,
-        data_files,
-        delete_files,
-        positions,
-        statistics,
-        scheduled,
-        counts,
-    )
-}
-
-// Whether the lent tables are sound: any content of the runs, any counts.
-pub fn is_sound(
-    snapshots: &[u64],
-    schemas: &[u64],
-    schema_names: &[u8],
-    tables: &[u64],
-    table_names: &[u8],
-    columns: &[u64],
-    column_names: &[u8],
-    data_files: &[u64],
-    delete_files: &[u64],
-    positions: &[u64],
-    statistics: &[u64],
-    scheduled: &[u64],
-    counts: Counts,
-) -> bool
-    ensures { λ r. ⌜ r ≡ sound (atEntry snapshots schemas «schema_names» tables «table_names» columns «column_names»
+) -> u64
+    ensures { λ r. ⌜ r ≡ firstUnsound (atEntry snapshots schemas «schema_names» tables «table_names» columns «column_names»
         «data_files» «delete_files» positions statistics scheduled) counts ⌝ }
 {
     let room = capacity(
@@ -120,13 +45,45 @@ pub fn is_sound(
     );
     let held = is_within(counts, room);
     if !held {
-        return false;
+        return FIELDS_LINE;
     }
-    let summed = positions_add_up(delete_files, counts.delete_files, counts.positions);
-    if !summed {
-        return false;
+    let records = records_line(
+        snapshots,
+        schemas,
+        schema_names,
+        tables,
+        table_names,
+        columns,
+        column_names,
+        data_files,
+        delete_files,
+        positions,
+        statistics,
+        scheduled,
+        counts,
+    );
+    if records != SOUND {
+        return records;
     }
-    is_sound_catalog(
+    let relations = relations_line(
+        snapshots,
+        schemas,
+        schema_names,
+        tables,
+        table_names,
+        columns,
+        column_names,
+        data_files,
+        delete_files,
+        positions,
+        statistics,
+        scheduled,
+        counts,
+    );
+    if relations != SOUND {
+        return relations;
+    }
+    contents_line(
         snapshots,
         schemas,
         schema_names,
@@ -141,4 +98,41 @@ pub fn is_sound(
         scheduled,
         counts,
     )
+}
+
+// Whether the lent tables are sound.
+pub fn is_sound(
+    snapshots: &[u64],
+    schemas: &[u64],
+    schema_names: &[u8],
+    tables: &[u64],
+    table_names: &[u8],
+    columns: &[u64],
+    column_names: &[u8],
+    data_files: &[u64],
+    delete_files: &[u64],
+    positions: &[u64],
+    statistics: &[u64],
+    scheduled: &[u64],
+    counts: Counts,
+) -> bool
+    ensures { λ r. ⌜ r ≡ sound (atEntry snapshots schemas «schema_names» tables «table_names» columns «column_names»
+        «data_files» «delete_files» positions statistics scheduled) counts ⌝ }
+{
+    let line = first_unsound(
+        snapshots,
+        schemas,
+        schema_names,
+        tables,
+        table_names,
+        columns,
+        column_names,
+        data_files,
+        delete_files,
+        positions,
+        statistics,
+        scheduled,
+        counts,
+    );
+    line == SOUND
 }

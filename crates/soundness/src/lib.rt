@@ -1,4 +1,5 @@
-// Whether the lent tables are sound, and what they have room for.
+// Which line of 'Sound tables' the lent tables break, and what they have room for.
 pub mod check;
+pub mod line;
 pub mod room;
 pub mod stages;

@@ -6,6 +6,7 @@ ghost use Rattle.layout.specs.Fields.{deleteFileSize};
 ghost use Rattle.layout.specs.Lent.{atEntry};
 ghost use Rattle.layout.specs.Names.{nameSize};
 ghost use Rattle.layout.specs.Words.{tableLimit, positionsBefore, capacity, within};
+use file_records::delete_file::delete_file_delete_count;
 use layout::number::NAME_SIZE;
 use layout::number::POSITION_LIMIT;
 use layout::number::TABLE_LIMIT;
@@ -18,7 +19,6 @@ use layout::record::SchemaRecord;
 use layout::record::SnapshotRecord;
 use layout::record::StatisticsRecord;
 use layout::record::TableRecord;
-use records::delete_file::delete_file_delete_count;
 
 fn smaller(a: usize, b: usize) -> usize
     ensures { λ r. ⌜ r ≡ min a b ⌝ }

@@ -1,8 +1,22 @@
 ghost use mathlib.Core.Path.{_≡_};
 ghost use mathlib.Core.Bool.{true};
 ghost use Rattle.layout.specs.Lent.{lentNow, atEntry};
-ghost use Rattle.layout.specs.Words.{load, fits};
-ghost use Rattle.soundness.specs.Stages.{ordered, placed, consistent, Ordered, Placed};
+ghost use Rattle.layout.specs.Words.{load, capacity, within};
+ghost use Rattle.ducklake.specs.Refusals.{need};
+ghost use Rattle.soundness.specs.Stages.{recordsLine, relationsLine, contentsLine, RecordsSound, RelationsSound};
+use crate::line::COLUMNS_LINE;
+use crate::line::DELETES_LINE;
+use crate::line::FIELDS_LINE;
+use crate::line::LIVES_LINE;
+use crate::line::NAMES_LINE;
+use crate::line::NESTING_LINE;
+use crate::line::NEXT_IDS_LINE;
+use crate::line::ORDER_LINE;
+use crate::line::ROWS_LINE;
+use crate::line::SNAPSHOTS_LINE;
+use crate::line::SOUND;
+use crate::line::STATISTICS_LINE;
+use crate::room::positions_add_up;
 use layout::outcome::Counts;
 use soundness_deletes::deletes::deletes_sound;
 use soundness_deletes::rows::row_ranges_sound;
@@ -17,8 +31,18 @@ use soundness_unique::files::files_distinct;
 use soundness_unique::files::ids_below_next;
 use soundness_unique::naming::names_apart;
 
-// The first stage: fields in range, snapshots that rise, ids that ascend.
-pub fn is_ordered(
+// The line's number where it doesn't hold.
+fn unless(holds: bool, line: u64) -> u64
+    ensures { λ r. ⌜ r ≡ need line holds 0 ⌝ }
+{
+    if holds {
+        return SOUND;
+    }
+    line
+}
+
+// Fields, snapshots, lives and order: what each table shows by itself, and beside the snapshots.
+pub fn records_line(
     snapshots: &[u64],
     schemas: &[u64],
     schema_names: &[u8],
@@ -32,13 +56,13 @@ pub fn is_ordered(
     statistics: &[u64],
     scheduled: &[u64],
     counts: Counts,
-) -> bool
-    requires { ⌜ fits (lentNow snapshots schemas «schema_names» tables «table_names» columns «column_names»
-        «data_files» «delete_files» positions statistics scheduled) counts ≡ true ⌝ }
-    ensures { λ r. ⌜ r ≡ ordered (load (atEntry snapshots schemas «schema_names» tables «table_names» columns «column_names»
+) -> u64
+    requires { ⌜ within counts (capacity (lentNow snapshots schemas «schema_names» tables «table_names» columns «column_names»
+        «data_files» «delete_files» positions statistics scheduled)) ≡ true ⌝ }
+    ensures { λ r. ⌜ r ≡ recordsLine (load (atEntry snapshots schemas «schema_names» tables «table_names» columns «column_names»
         «data_files» «delete_files» positions statistics scheduled) counts) ⌝ }
 {
-    let a = fields_in_range(
+    let fields = fields_in_range(
         snapshots,
         schemas,
         schema_names,
@@ -52,8 +76,26 @@ pub fn is_ordered(
         scheduled,
         counts,
     );
-    let b = snapshots_rise(snapshots, counts.snapshots);
-    let c = ids_ascend(
+    if !fields {
+        return FIELDS_LINE;
+    }
+    let rise = snapshots_rise(snapshots, counts.snapshots);
+    if !rise {
+        return SNAPSHOTS_LINE;
+    }
+    let lives = lives_sound(
+        snapshots,
+        schemas,
+        tables,
+        columns,
+        data_files,
+        delete_files,
+        counts,
+    );
+    if !lives {
+        return LIVES_LINE;
+    }
+    let ascend = ids_ascend(
         schemas,
         tables,
         columns,
@@ -62,11 +104,11 @@ pub fn is_ordered(
         statistics,
         counts,
     );
-    a & b & c
+    unless(ascend, ORDER_LINE)
 }
 
-// The second stage: lives at retained snapshots, ids below the next ones, lives within lives.
-pub fn is_placed(
+// Ids below the next ones and files that differ, lives within lives, names: how the tables stand to each other.
+pub fn relations_line(
     snapshots: &[u64],
     schemas: &[u64],
     schema_names: &[u8],
@@ -80,22 +122,13 @@ pub fn is_placed(
     statistics: &[u64],
     scheduled: &[u64],
     counts: Counts,
-) -> bool
-    requires { ⌜ Ordered (lentNow snapshots schemas «schema_names» tables «table_names» columns «column_names»
+) -> u64
+    requires { ⌜ RecordsSound (lentNow snapshots schemas «schema_names» tables «table_names» columns «column_names»
         «data_files» «delete_files» positions statistics scheduled) counts ⌝ }
-    ensures { λ r. ⌜ r ≡ placed (load (atEntry snapshots schemas «schema_names» tables «table_names» columns «column_names»
+    ensures { λ r. ⌜ r ≡ relationsLine (load (atEntry snapshots schemas «schema_names» tables «table_names» columns «column_names»
         «data_files» «delete_files» positions statistics scheduled) counts) ⌝ }
 {
-    let a = lives_sound(
-        snapshots,
-        schemas,
-        tables,
-        columns,
-        data_files,
-        delete_files,
-        counts,
-    );
-    let b = ids_below_next(
+    let below = ids_below_next(
         snapshots,
         schemas,
         tables,
@@ -104,12 +137,31 @@ pub fn is_placed(
         scheduled,
         counts,
     );
-    let c = lives_nest(schemas, tables, columns, data_files, delete_files, counts);
-    a & b & c
+    if !below {
+        return NEXT_IDS_LINE;
+    }
+    let distinct = files_distinct(data_files, delete_files, scheduled, counts);
+    if !distinct {
+        return NEXT_IDS_LINE;
+    }
+    let nest = lives_nest(schemas, tables, columns, data_files, delete_files, counts);
+    if !nest {
+        return NESTING_LINE;
+    }
+    let apart = names_apart(
+        schemas,
+        schema_names,
+        tables,
+        table_names,
+        columns,
+        column_names,
+        counts,
+    );
+    unless(apart, NAMES_LINE)
 }
 
-// The third stage: files, names, deletes, row ranges, statistics and column counts.
-pub fn is_consistent(
+// Deleted positions, row ranges, statistics and column counts: what files and tables hold.
+pub fn contents_line(
     snapshots: &[u64],
     schemas: &[u64],
     schema_names: &[u8],
@@ -123,25 +175,28 @@ pub fn is_consistent(
     statistics: &[u64],
     scheduled: &[u64],
     counts: Counts,
-) -> bool
-    requires { ⌜ Placed (lentNow snapshots schemas «schema_names» tables «table_names» columns «column_names»
+) -> u64
+    requires { ⌜ RelationsSound (lentNow snapshots schemas «schema_names» tables «table_names» columns «column_names»
         «data_files» «delete_files» positions statistics scheduled) counts ⌝ }
-    ensures { λ r. ⌜ r ≡ consistent (load (atEntry snapshots schemas «schema_names» tables «table_names» columns «column_names»
-        «data_files» «delete_files» positions statistics scheduled) counts) ⌝ }
+    ensures { λ r. ⌜ r ≡ contentsLine (atEntry snapshots schemas «schema_names» tables «table_names» columns «column_names»
+        «data_files» «delete_files» positions statistics scheduled) counts ⌝ }
 {
-    let a = files_distinct(data_files, delete_files, scheduled, counts);
-    let b = names_apart(
-        schemas,
-        schema_names,
-        tables,
-        table_names,
-        columns,
-        column_names,
-        counts,
-    );
-    let c = deletes_sound(data_files, delete_files, positions, counts);
-    let d = row_ranges_sound(tables, data_files, counts);
-    let e = statistics_sound(columns, data_files, statistics, counts);
-    let f = column_counts_sound(tables, columns, counts);
-    a & b & c & d & e & f
+    let summed = positions_add_up(delete_files, counts.delete_files, counts.positions);
+    if !summed {
+        return DELETES_LINE;
+    }
+    let deletes = deletes_sound(data_files, delete_files, positions, counts);
+    if !deletes {
+        return DELETES_LINE;
+    }
+    let rows = row_ranges_sound(tables, data_files, counts);
+    if !rows {
+        return ROWS_LINE;
+    }
+    let covered = statistics_sound(columns, data_files, statistics, counts);
+    if !covered {
+        return STATISTICS_LINE;
+    }
+    let few = column_counts_sound(tables, columns, counts);
+    unless(few, COLUMNS_LINE)
 }

@@ -1,23 +1,23 @@
--- What the cases are worth, by computation: the tables are sound, each case breaks just its rule or none, and the session's words are those that the
--- diary's calls leave.
+-- What the cases are worth, by computation: each breaks just its line or none, or its line first, and the session's words are those that the diary's
+-- calls leave.
 use Prim.Native.Nat.{ℕ}
 use mathlib.Core.Path.{_≡_, refl}
 use mathlib.Core.Bool.{Bool, true, false, not, _&&_, _||_}
 use mathlib.Core.List.{List, [], _∷_, _++_}
 use lib.Dec.{eqb}
-use lib.ListN.{take, replicate}
-use Rattle.lists.specs.Lists.{range, all, agree}
+use lib.ListN.{drop, replicate}
+use Rattle.lists.specs.Lists.{all, agree}
 use Rattle.lists.specs.Runs.{overwrite}
 use Rattle.layout.specs.declared.outcome.Counts.{Counts}
 use Rattle.layout.specs.Catalog.{Catalog}
-use Rattle.layout.specs.Words.{Words, load, fits}
-use Rattle.ducklake.specs.Soundness.{fieldsInRange, snapshotsRise, livesSound, idsAscend, idsBelowNext, filesDistinct, livesNest, namesApart, deletesSound, rowRangesSound, statisticsSound, columnCountsSound}
+use Rattle.layout.specs.Words.{Words, load, capacity, within}
+use Rattle.ducklake.specs.Soundness.{fieldsInRange, snapshotsRise, livesSound, idsAscend, idsBelowNext, filesDistinct, livesNest, namesApart, deletesSound, rowRangesSound, statisticsSound, columnCountsSound, positionsAddUp, firstUnsound}
 use Rattle.ducklake.specs.Calls.{Call, Result, perform, performFresh}
 use Rattle.ducklake.proofs.cases.Sessions.{passes}
 use Rattle.ducklake.proofs.cases.Diary.{area, toEnd}
 use Rattle.soundness_cases.specs.Arrays.{runs, used}
 use Rattle.soundness_cases.specs.Places.{arrayLength, starts, sizes, placeOf}
-use Rattle.soundness_cases.proofs.Tables.{small, cases, session}
+use Rattle.soundness_cases.proofs.Tables.{small, cases, several, session}
 
 -- the array of runs and counts
 array : Words → Counts → List ℕ
@@ -45,26 +45,44 @@ pieces ws ((tag ∷ table ∷ i ∷ xs) ∷ rest) = pieces (overwrite ws (placeO
 start : List ℕ
 start = pieces (replicate arrayLength 0) small
 
--- whether each rule holds; the first decides whether there are tables to judge
-rules : List ℕ → List Bool
-rules ws =
-    let C : Catalog = load (runs ws) (used ws) in
-    fits (runs ws) (used ws) ∷ fieldsInRange C ∷ snapshotsRise (C .snapshots) ∷ livesSound C ∷ idsAscend C ∷ idsBelowNext C ∷ filesDistinct C ∷ livesNest C
-    ∷ namesApart C ∷ deletesSound C ∷ rowRangesSound C ∷ statisticsSound C ∷ columnCountsSound C ∷ []
+-- whether each line of 'Sound tables' holds, and after them the limit of columns
+lines : List ℕ → List Bool
+lines ws =
+    let w : Words = runs ws in
+    let c : Counts = used ws in
+    let C : Catalog = load w c in
+    (within c (capacity w) && fieldsInRange C) ∷ snapshotsRise (C .snapshots) ∷ livesSound C ∷ idsAscend C ∷ (idsBelowNext C && filesDistinct C) ∷ livesNest C
+    ∷ namesApart C ∷ (positionsAddUp w c && deletesSound C) ∷ rowRangesSound C ∷ statisticsSound C ∷ columnCountsSound C ∷ []
 
-same : Bool → Bool → Bool
-same a b = (a && b) || (not a && not b)
+-- the line is the first that doesn't hold
+isFirst : ℕ → List ℕ → Bool
+isFirst line ws = eqb (firstUnsound (runs ws) (used ws)) line
 
--- a case breaks its rule and no other; tables that don't fit break the first, whatever there is past their end
+-- and all after it hold
+othersHold : ℕ → List ℕ → Bool
+othersHold line ws = all (λ b. b) (drop line (lines ws))
+
+-- a case breaks its line and no other; of counts that the runs have no room for nothing else is asked, whatever there is past their end
 breaks : List ℕ → Bool
 breaks [] = false
-breaks (rule ∷ changes) =
-    let bs : List Bool = rules (changed start changes) in
-    agree (λ k b. same b (not (eqb k rule))) (1 ∷ []) (take 1 bs) && (eqb rule 1 || agree (λ k b. same b (not (eqb k rule))) (range 1 13) bs)
+breaks (line ∷ changes) =
+    let ws : List ℕ = changed start changes in
+    isFirst line ws && (not (within (used ws) (capacity (runs ws))) || othersHold line ws)
 
 cases-break : all breaks cases ≡ true
-unfolding passes small cases breaks start rules runs used pieces changed same starts sizes placeOf
+unfolding passes small cases breaks isFirst othersHold start lines firstUnsound runs used pieces changed starts sizes placeOf
 cases-break = refl
+
+-- these break their line first, and another
+breaksMore : List ℕ → Bool
+breaksMore [] = false
+breaksMore (line ∷ changes) =
+    let ws : List ℕ = changed start changes in
+    isFirst line ws && not (othersHold line ws)
+
+several-break : all breaksMore several ≡ true
+unfolding passes small several breaksMore isFirst othersHold start lines firstUnsound runs used pieces changed starts sizes placeOf
+several-break = refl
 
 -- the arrays that the session comes to, call by call
 steps : List ℕ → List (List ℕ) → List (List ℕ)

@@ -1,12 +1,12 @@
 -- Tables whose runs and used counts lie in one array, one after another, each name byte a word.
 use Prim.Native.Nat.{ℕ, _+_, _-_, _%_}
-use mathlib.Core.Bool.{Bool, _&&_}
 use mathlib.Core.List.{List, map}
 use lib.Dec.{eqb}
 use lib.ListN.{length, take, drop, getD}
 use Rattle.layout.specs.declared.outcome.Counts.{Counts}
 use Rattle.layout.specs.Words.{Words}
-use Rattle.ducklake.specs.Soundness.{sound}
+use Rattle.ducklake.specs.Refusals.{need}
+use Rattle.ducklake.specs.Soundness.{firstUnsound}
 use Rattle.soundness_cases.specs.Places as place
 
 -- the words from a place up to another
@@ -46,5 +46,6 @@ used ws = record {
   scheduled = getD ws (place.countsStart + place.scheduled) 0;
 }
 
-unfoldable pub soundArray : List ℕ → Bool
-soundArray ws = eqb (length ws) place.arrayLength && sound (runs ws) (used ws)
+-- the first line that doesn't hold: an array of another length has no room for its tables
+unfoldable pub firstUnsoundArray : List ℕ → ℕ
+firstUnsoundArray ws = need 1 (eqb (length ws) place.arrayLength) (firstUnsound (runs ws) (used ws))

@@ -1,16 +1,15 @@
 // The lines of proofs/Tables.antt, one after another.
 use crate::places::LENGTH;
 use crate::places::place;
-use crate::small::is_sound_array;
+use crate::small::first_unsound_array;
 use crate::text::line_end;
 use crate::text::values;
 
-pub fn say(is_sound: bool) {
-    if is_sound {
-        io::write_all(1, b": sound\n");
-    } else {
-        io::write_all(1, b": unsound\n");
-    }
+// The first line that the array's tables break.
+fn say_line(words: &[u64]) {
+    io::write_all(1, b": ");
+    io::print_decimal(1, first_unsound_array(words));
+    io::write_all(1, b"\n");
 }
 
 // The word at a place, where there is such a place.
@@ -52,29 +51,29 @@ fn try_case(line: &[u64], tables: &[u64]) {
     let mut changed = [0u64; LENGTH];
     copy(tables, &mut changed);
     write_changes(line, &mut changed);
-    say(is_sound_array(&changed));
+    say_line(&changed);
 }
 
-// 0: a piece of the tables. 15: a piece of the session. 16: a call of it is done. Any other number: a case.
+// 12: a piece of the tables. 13: a piece of the session. 14: a call of it is done. Any other number: a case.
 fn try_line(line: &[u64], tables: &mut [u64], session: &mut [u64]) {
     if line.len() == 0 {
         return;
     }
     let tag = line[0];
-    if tag == 0 {
+    if tag == 12 {
         write_piece(line, tables);
         return;
     }
-    if tag == 15 {
+    if tag == 13 {
         write_piece(line, session);
         return;
     }
-    if tag == 16 {
+    if tag == 14 {
         io::write_all(1, b"session");
-        say(is_sound_array(session));
+        say_line(session);
         return;
     }
-    io::write_all(1, b"rule ");
+    io::write_all(1, b"case ");
     io::print_decimal(1, tag);
     try_case(line, tables);
 }

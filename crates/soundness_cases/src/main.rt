@@ -1,4 +1,4 @@
-// Tries the check on the cases of proofs/Tables.antt, which it reads from its standard input, and says of each whether the tables are sound.
+// Tries the check on the cases of proofs/Tables.antt, which it reads from its standard input, and says of each which line of 'Sound tables' fails first.
 mod lines;
 mod places;
 mod small;

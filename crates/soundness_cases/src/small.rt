@@ -1,7 +1,7 @@
 // Tables whose runs and used counts lie in one array, one after another, each name byte a word.
 ghost use mathlib.Core.Path.{_≡_};
 ghost use lib.ListN.{length};
-ghost use Rattle.soundness_cases.specs.Arrays.{bytes, used, soundArray};
+ghost use Rattle.soundness_cases.specs.Arrays.{bytes, used, firstUnsoundArray};
 ghost use Rattle.soundness_cases.specs.Places.{arrayLength};
 use crate::places::COLUMN_NAMES;
 use crate::places::COLUMNS;
@@ -17,7 +17,8 @@ use crate::places::STATISTICS;
 use crate::places::TABLE_NAMES;
 use crate::places::TABLES;
 use layout::outcome::Counts;
-use soundness::check::is_sound;
+use soundness::check::first_unsound;
+use soundness::line::FIELDS_LINE;
 
 // Words as bytes.
 fn write_bytes(words: &[u64], out: &mut [u8])
@@ -49,12 +50,12 @@ fn used_counts(words: &[u64]) -> Counts
     }
 }
 
-// Whether the array is as long as it should be and its tables are sound.
-pub fn is_sound_array(words: &[u64]) -> bool
-    ensures { λ r. ⌜ r ≡ soundArray (now (words .entry)) ⌝ }
+// The first line of 'Sound tables' that the array's tables break, or 0: an array of another length has no room for them.
+pub fn first_unsound_array(words: &[u64]) -> u64
+    ensures { λ r. ⌜ r ≡ firstUnsoundArray (now (words .entry)) ⌝ }
 {
     if words.len() != LENGTH {
-        return false;
+        return FIELDS_LINE;
     }
     let mut schema_names = [0u8; TABLE_NAMES - SCHEMA_NAMES];
     write_bytes(&words[SCHEMA_NAMES..TABLE_NAMES], &mut schema_names);
@@ -63,7 +64,7 @@ pub fn is_sound_array(words: &[u64]) -> bool
     let mut column_names = [0u8; LENGTH - COLUMN_NAMES];
     write_bytes(&words[COLUMN_NAMES..LENGTH], &mut column_names);
     let counts = used_counts(words);
-    is_sound(
+    first_unsound(
         &words[0..SCHEMAS],
         &words[SCHEMAS..TABLES],
         &schema_names,

@@ -22,9 +22,9 @@ use layout::record::SnapshotRecord;
 use layout::record::StatisticsRecord;
 use layout::record::TableRecord;
 use names::is_name;
-use records::value::is_type;
 use runs::fields::field_at;
 use runs::fields::fields_between;
+use values::is_type;
 
 // "every field is in its range; padding is zero": a pass over the table for each of its fields.
 

@@ -9,7 +9,9 @@ use layout::number::POSITION_LIMIT;
 use layout::number::TABLE_LIMIT;
 use layout::outcome::Counts;
 use layout::record::ColumnRecord;
-use limit_tables::fill_columns_of_one;
+use limit_tables::content::Content;
+use limit_tables::tables::Table;
+use limit_tables::tables::fill_records;
 use soundness::check::is_sound;
 
 // As many as may be used, or one more.
@@ -62,6 +64,17 @@ fn one_table(columns: usize) -> Counts {
         statistics: 0,
         scheduled: TABLE_LIMIT,
     }
+}
+
+// Columns of the first table alone, one more than it may have.
+fn fill_columns_of_one(w: &mut [u64]) {
+    fill_records(
+        w,
+        0,
+        COLUMN_LIMIT + 1,
+        Table::OnlyColumns,
+        Content::sample(),
+    );
 }
 
 fn say(is_sound: bool) {

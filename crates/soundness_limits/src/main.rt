@@ -1,10 +1,7 @@
-// Tables at the limits: without an argument what the check answers; with one, how long it takes.
+// What the check answers of tables at the limits and one past them.
 mod answers;
-mod times;
 
 use crate::answers::write_answers;
-use crate::times::Times;
-use crate::times::measure;
 use layout::number::NAME_SIZE;
 use layout::number::POSITION_LIMIT;
 use layout::record::ColumnRecord;
@@ -16,13 +13,52 @@ use layout::record::SnapshotRecord;
 use layout::record::StatisticsRecord;
 use layout::record::TableRecord;
 use limit_tables::RECORDS;
-use std::num::wrapping_add_u64;
+use limit_tables::content::Content;
+use limit_tables::naming::Names;
+use limit_tables::naming::fill_names;
+use limit_tables::tables::Table;
+use limit_tables::tables::fill_positions;
+use limit_tables::tables::fill_records;
 
-const ROUNDS: u64 = 10;
+// Fills the tables of files beside those, and judges them.
+fn judge(
+    snapshots: &[u64],
+    schemas: &[u64],
+    schema_names: &[u8],
+    tables: &[u64],
+    table_names: &[u8],
+    columns: &[u64],
+    column_names: &[u8],
+) {
+    let mut data_files = [0u64; RECORDS * DataFileRecord::SIZE];
+    let mut delete_files = [0u64; RECORDS * DeleteFileRecord::SIZE];
+    let mut positions = [0u64; POSITION_LIMIT + 1];
+    let mut statistics = [0u64; RECORDS * StatisticsRecord::SIZE];
+    let mut scheduled = [0u64; RECORDS * ScheduledRecord::SIZE];
+    let c = Content::sample();
+    fill_records(&mut data_files, 0, RECORDS, Table::DataFiles, c);
+    fill_records(&mut delete_files, 0, RECORDS, Table::DeleteFiles, c);
+    fill_positions(&mut positions, 0, RECORDS);
+    fill_records(&mut statistics, 0, RECORDS, Table::Statistics, c);
+    fill_records(&mut scheduled, 0, RECORDS, Table::Scheduled, c);
+    write_answers(
+        snapshots,
+        schemas,
+        schema_names,
+        tables,
+        table_names,
+        columns,
+        column_names,
+        &data_files,
+        &delete_files,
+        &positions,
+        &statistics,
+        &scheduled,
+    );
+}
 
-// Fills tables with room for one record more than they may have, and judges them. Each round fills them anew, since the compiler lets one check of
-// words that stay as they are stand for all.
-fn round(timed: bool) -> Times {
+// Tables with room for one record more than they may have.
+fn main() {
     let mut snapshots = [0u64; RECORDS * SnapshotRecord::SIZE];
     let mut schemas = [0u64; RECORDS * SchemaRecord::SIZE];
     let mut schema_names = [0u8; RECORDS * NAME_SIZE];
@@ -30,40 +66,15 @@ fn round(timed: bool) -> Times {
     let mut table_names = [0u8; RECORDS * NAME_SIZE];
     let mut columns = [0u64; RECORDS * ColumnRecord::SIZE];
     let mut column_names = [0u8; RECORDS * NAME_SIZE];
-    let mut data_files = [0u64; RECORDS * DataFileRecord::SIZE];
-    let mut delete_files = [0u64; RECORDS * DeleteFileRecord::SIZE];
-    let mut positions = [0u64; POSITION_LIMIT + 1];
-    let mut statistics = [0u64; RECORDS * StatisticsRecord::SIZE];
-    let mut scheduled = [0u64; RECORDS * ScheduledRecord::SIZE];
-    limit_tables::fill_snapshots(&mut snapshots);
-    limit_tables::fill_schemas(&mut schemas);
-    limit_tables::fill_names(&mut schema_names);
-    limit_tables::fill_tables(&mut tables);
-    limit_tables::fill_names(&mut table_names);
-    limit_tables::fill_columns(&mut columns);
-    limit_tables::fill_names(&mut column_names);
-    limit_tables::fill_data_files(&mut data_files);
-    limit_tables::fill_delete_files(&mut delete_files);
-    limit_tables::fill_positions(&mut positions);
-    limit_tables::fill_statistics(&mut statistics);
-    limit_tables::fill_scheduled(&mut scheduled);
-    if !timed {
-        write_answers(
-            &snapshots,
-            &schemas,
-            &schema_names,
-            &tables,
-            &table_names,
-            &columns,
-            &column_names,
-            &data_files,
-            &delete_files,
-            &positions,
-            &statistics,
-            &scheduled,
-        );
-    }
-    measure(
+    let c = Content::sample();
+    fill_records(&mut snapshots, 0, RECORDS, Table::Snapshots, c);
+    fill_records(&mut schemas, 0, RECORDS, Table::Schemas, c);
+    fill_names(&mut schema_names, 0, RECORDS, Names::Letters);
+    fill_records(&mut tables, 0, RECORDS, Table::Tables, c);
+    fill_names(&mut table_names, 0, RECORDS, Names::Letters);
+    fill_records(&mut columns, 0, RECORDS, Table::Columns, c);
+    fill_names(&mut column_names, 0, RECORDS, Names::Letters);
+    judge(
         &snapshots,
         &schemas,
         &schema_names,
@@ -71,56 +82,5 @@ fn round(timed: bool) -> Times {
         &table_names,
         &columns,
         &column_names,
-        &data_files,
-        &delete_files,
-        &positions,
-        &statistics,
-        &scheduled,
-    )
-}
-
-fn rounds() -> Times {
-    let mut sound = true;
-    let mut check_ticks: u64 = 0;
-    let mut pass_ticks: u64 = 0;
-    let mut sum: u64 = 0;
-    for _ in 0..ROUNDS {
-        let r = round(true);
-        sound = sound & r.sound;
-        check_ticks = wrapping_add_u64(check_ticks, r.check_ticks);
-        pass_ticks = wrapping_add_u64(pass_ticks, r.pass_ticks);
-        sum = wrapping_add_u64(sum, r.sum);
-    }
-    Times {
-        sound,
-        check_ticks,
-        pass_ticks,
-        sum,
-    }
-}
-
-fn print_number(what: &[u8], n: u64) {
-    io::write_all(1, what);
-    io::print_decimal(1, n);
-    io::write_all(1, b"\n");
-}
-
-// The sum is written so that no pass can be left out.
-fn print_times(r: Times) {
-    print_number(b"sound: ", r.sound as u64);
-    print_number(b"rounds: ", ROUNDS);
-    print_number(b"ticks of the checks: ", r.check_ticks);
-    print_number(b"ticks of the passes: ", r.pass_ticks);
-    print_number(b"sum of the passes: ", r.sum);
-    if r.pass_ticks > 0 {
-        print_number(b"passes to a check: ", r.check_ticks / r.pass_ticks);
-    }
-}
-
-fn main() {
-    if os::arg_count() < 2 {
-        round(false);
-    } else {
-        print_times(rounds());
-    }
+    );
 }

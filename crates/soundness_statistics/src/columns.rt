@@ -11,18 +11,20 @@ ghost use Rattle.lookup.specs.Order.{TablesById, ColumnsByTable};
 ghost use Rattle.soundness_statistics.specs.Counted.{columnsCounted};
 use layout::number::COLUMN_LIMIT;
 use layout::outcome::Counts;
-use lookup::block::columns_of;
+use lookup::block::columns_near;
 use records::table::table_id;
 
-// Whether each table has 1 to 16 columns on record.
+// Whether each table has 1 to 16 columns on record. Both ascend by table, so those of the next table most often follow.
 fn columns_counted(tables: &[u64], n: usize, columns: &[u64], m: usize) -> bool
     requires { ⌜ (tableSize * n ≤ length (now tables)) × ColumnsByTable (now columns) m ⌝ }
     ensures { λ r. ⌜ ((t c : List ℕ) → r ≡ all (columnsCounted (columnsIn (now (columns .entry)) c m)) (tablesIn (now (tables .entry)) t n)) ⌝ }
 {
     let mut i: usize = 0;
+    let mut near: usize = 0;
     while i < n {
         let table = table_id(tables, i);
-        let own = columns_of(columns, m, table);
+        let own = columns_near(columns, m, table, near);
+        near = own.end;
         let k = own.end - own.start;
         if !((1 <= k) & (k <= COLUMN_LIMIT)) {
             return false;

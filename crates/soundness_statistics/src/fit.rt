@@ -10,9 +10,9 @@ use layout::record::ColumnRecord;
 use layout::record::StatisticsRecord;
 use lookup::life::Life;
 use lookup::life::is_live;
-use records::value::bound_at_most;
-use records::value::in_type;
-use records::value::to_signed;
+use values::bound_at_most;
+use values::in_type;
+use values::to_signed;
 
 // Whether a file that begins at s has statistics of the column: "each column live at its begin".
 pub fn statistics_wanted(column: ColumnRecord, s: SnapshotId) -> bool

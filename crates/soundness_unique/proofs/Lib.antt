@@ -1,4 +1,5 @@
-pub mod Apart
 pub mod FileKeys
 pub mod FileLists
-pub mod NameHashes
+pub mod LifeOrder
+pub mod NameKeys
+pub mod NamesGiven

@@ -1,3 +1,3 @@
 pub mod Files
-pub mod Hashes
+pub mod Naming
 pub mod Relied

@@ -3,16 +3,16 @@ use Prim.Native.Nat.{ℕ, _+_, _*_, _≤_, _<_}
 use mathlib.Core.Path.{_≡_}
 use mathlib.Core.Bool.{true}
 use mathlib.Core.List.{List}
+use lib.Dec.{ltb}
 use lib.ListN.{length}
-use Rattle.lists.specs.Runs.{field, hashCount, hasHash}
+use Rattle.lists.specs.Lists.{all}
+use Rattle.lists.specs.Runs.{field}
 use Rattle.layout.specs.declared.outcome.Counts.{Counts}
-use Rattle.layout.specs.Fields.{snapshotSize, schemaSize, tableSize, dataFileSize, deleteFileSize, scheduledSize}
-use Rattle.layout.specs.Names.{nameSize, nameAt}
-use Rattle.layout.specs.Words.{tableLimit}
-use Rattle.lookup.specs.Order.{ColumnsByTable}
+use Rattle.layout.specs.Fields.{snapshotSize, schemaSize, tableSize, columnSize, dataFileSize, deleteFileSize, scheduledSize}
+use Rattle.layout.specs.Names.{nameSize, isName}
+use Rattle.layout.specs.Words.{tableLimit, schemasIn, tablesIn, columnsIn}
 use Rattle.soundness_unique.specs.declared.distinct.FileWords.{FileWords}
 use Rattle.soundness_unique.specs.Files.{fileCount}
-use Rattle.soundness_unique.specs.Hashes.{nameHash}
 
 -- the tables of files are lent as far as they are used
 pub record FilesLent (dataFiles deleteFiles scheduled : List ℕ) (counts : Counts) : Type 0 where
@@ -35,14 +35,23 @@ pub record Numbered (snapshots schemas tables dataFiles deleteFiles scheduled : 
   pub tablesLent : tableSize * counts .tables ≤ length tables
   pub filesLent : FilesLent dataFiles deleteFiles scheduled counts
 
--- the tables with names are lent as far as they are used, and the columns of a table stand together
+-- the tables with names are lent as far as they are used, each within the limit; their names are names, and their records' lives not empty
 pub record Named (schemas schemaNames tables tableNames columns columnNames : List ℕ) (counts : Counts) : Type 0 where
   pub schemasLent : schemaSize * counts .schemas ≤ length schemas
   pub schemaNamesLent : nameSize * counts .schemas ≤ length schemaNames
+  pub fewSchemas : counts .schemas ≤ tableLimit
+  pub schemasNamed : all (λ v. isName (v .body .name)) (schemasIn schemas schemaNames (counts .schemas)) ≡ true
+  pub schemasLive : all (λ v. ltb (v .begin) (v .end)) (schemasIn schemas schemaNames (counts .schemas)) ≡ true
   pub tablesLent : tableSize * counts .tables ≤ length tables
   pub tableNamesLent : nameSize * counts .tables ≤ length tableNames
-  pub columnsByTable : ColumnsByTable columns (counts .columns)
+  pub fewTables : counts .tables ≤ tableLimit
+  pub tablesNamed : all (λ v. isName (v .body .name)) (tablesIn tables tableNames (counts .tables)) ≡ true
+  pub tablesLive : all (λ v. ltb (v .begin) (v .end)) (tablesIn tables tableNames (counts .tables)) ≡ true
+  pub columnsLent : columnSize * counts .columns ≤ length columns
   pub columnNamesLent : nameSize * counts .columns ≤ length columnNames
+  pub fewColumns : counts .columns ≤ tableLimit
+  pub columnsNamed : all (λ v. isName (v .body .name)) (columnsIn columns columnNames (counts .columns)) ≡ true
+  pub columnsLive : all (λ v. ltb (v .begin) (v .end)) (columnsIn columns columnNames (counts .columns)) ≡ true
 
 -- keys of `size` words, as many as there are files, and a word of each table to be put into their word `at`
 pub record FilesPuttable (counts : Counts) (words : FileWords) (size at : ℕ) (keys : List ℕ) : Type 0 where
@@ -66,24 +75,3 @@ pub record FilesSortable (counts : Counts) (keys w v : List ℕ) : Type 0 where
   pub room : 2 * fileCount counts ≤ length keys
   pub places : length w ≡ fileCount counts
   pub scratch : length v ≡ fileCount counts
-
--- two records of `size` words with names
-pub record TwoNamed (size : ℕ) (run names : List ℕ) (i j : ℕ) : Type 0 where
-  pub first : size * i + size ≤ length run
-  pub second : size * j + size ≤ length run
-  pub firstName : nameSize * i + nameSize ≤ length names
-  pub secondName : nameSize * j + nameSize ≤ length names
-
--- a record of `size` words with a name of that hash; the hashes of all names after it are there
-pub record NamesAdded (size : ℕ) (run names hashes : List ℕ) (hash i n : ℕ) : Type 0 where
-  pub lent : size * n ≤ length run
-  pub named : nameSize * n ≤ length names
-  pub below : i < n
-  pub whole : length hashes ≡ hashCount
-  pub own : hash ≡ nameHash 0 (nameAt names i)
-  pub added : (j : ℕ) → i + 1 ≤ j → j < n → hasHash hashes (nameHash 0 (nameAt names j)) ≡ true
-
--- columns with names, the columns of a table together
-pub record ColumnsNamed (run names : List ℕ) (n : ℕ) : Type 0 where
-  pub byTable : ColumnsByTable run n
-  pub named : nameSize * n ≤ length names

@@ -13,7 +13,7 @@ use layout::record::ScheduledRecord;
 use sorting::distinct::keys_differ;
 use sorting::keys::put_words;
 
-// Ids and UUIDs of files are in no order over the three tables: those of all are sorted.
+// Ids and UUIDs of files are in no order over the three tables: those of all are compared, and those that share a hash sorted.
 
 // So few files take little scratch.
 pub const FEW_FILES: usize = 64;

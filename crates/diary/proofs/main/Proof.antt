@@ -3,7 +3,7 @@ use borrow.Author.Needs.{needs}
 use mathlib.Core.Path.{sym}
 use native.Mathlib.Omega.{arith}
 use lib.Seq.{length-take-le}
-use Rattle.diary.proofs.Printed.{text-fits, text-ends}
+use Rattle.diary_session.proofs.Printed.{text-fits, text-ends}
 use Rattle.diary.proofs.main.Statement.{statement}
 use Rattle.diary.proofs.main.Tie as tie
 

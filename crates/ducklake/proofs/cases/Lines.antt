@@ -10,7 +10,7 @@
 --   1 RUN RECORD AT WORD ..    before the next call, and for it alone: these words lie at the word AT of RECORD and on
 --   2 RUN RECORDS WORDS        the same: only so many records and so many words more of the run are lent
 --   3 RUN RECORD AT WORD ..    the next call leaves these words at the word AT of RECORD and on
---   4 RUN RECORD BYTE ..       the next call leaves this name at the place of RECORD, filled with zero bytes
+--   4 RUN RECORD WORD ..       the next call leaves this record, or this name, at the place of RECORD, the words after these 0
 --   5 AREA NUMBER PLACES LENGTH CALL ARGUMENT ..
 --                              the call, with the first AREA words of the answer area, gives this number, place, length, and leaves every word of every
 --                              run as it was but for what the lines before say; what comes after it finds the runs as they were before
@@ -67,11 +67,19 @@ onRun (suc i) f (r ∷ rs) = r ∷ onRun i f rs
 write : ℕ → List ℕ → List ℕ → List ℕ
 write k new old = take k old ++ (new ++ drop (k + length new) old)
 
+-- how many words a record of a run has
+recordSize : ℕ → ℕ
+recordSize i =
+    getD (snapshotSize ∷ schemaSize ∷ tableSize ∷ columnSize ∷ dataFileSize ∷ deleteFileSize ∷ 1 ∷ statisticsSize ∷ scheduledSize ∷ 1
+    ∷ nameSize ∷ nameSize ∷ nameSize ∷ 1 ∷ []) i 0
+
 -- the word of a run that is a word of a record of it
 wordOf : ℕ → ℕ → ℕ → ℕ
-wordOf i r word =
-    getD (snapshotSize ∷ schemaSize ∷ tableSize ∷ columnSize ∷ dataFileSize ∷ deleteFileSize ∷ 1 ∷ statisticsSize ∷ scheduledSize ∷ 1
-    ∷ nameSize ∷ nameSize ∷ nameSize ∷ 1 ∷ []) i 0 * r + word
+wordOf i r word = recordSize i * r + word
+
+-- words, and zeros up to so many
+filled : ℕ → List ℕ → List ℕ
+filled n xs = xs ++ replicate (n - length xs) 0
 
 -- The runs as what the calls take, and what a call leaves as runs
 
@@ -117,14 +125,10 @@ runsOf r =
 arg : ℕ → List ℕ → ℕ
 arg i xs = getD xs i 0
 
--- a name in its place
-filled : List ℕ → List ℕ
-filled name = name ++ replicate (nameSize - length name) 0
-
 -- so many names, each after its length
 namePlaces : ℕ → List ℕ → List ℕ
 namePlaces zero xs = []
-namePlaces (suc k) xs = filled (take (getD xs 0 0) (drop 1 xs)) ++ namePlaces k (drop (1 + getD xs 0 0) xs)
+namePlaces (suc k) xs = filled nameSize (take (getD xs 0 0) (drop 1 xs)) ++ namePlaces k (drop (1 + getD xs 0 0) xs)
 
 scalarOf : ℕ → ℤ
 scalarOf x = cond (ltb x (2 ^ 63)) (pos x) (negsuc (2 ^ 64 - suc x))
@@ -231,12 +235,12 @@ next S (tag ∷ xs) =
     (cond (eqb tag 1) (set S (arg 0 xs) (write (wordOf (arg 0 xs) (arg 1 xs) (arg 2 xs)) (drop 3 xs)))
     (cond (eqb tag 2) (set S (arg 0 xs) (take (wordOf (arg 0 xs) (arg 1 xs) (arg 2 xs))))
     (cond (eqb tag 3) (leave S (arg 0 xs) (write (wordOf (arg 0 xs) (arg 1 xs) (arg 2 xs)) (drop 3 xs)))
-    (cond (eqb tag 4) (leave S (arg 0 xs) (write (wordOf (arg 0 xs) (arg 1 xs) 0) (filled (drop 2 xs))))
+    (cond (eqb tag 4) (leave S (arg 0 xs) (write (wordOf (arg 0 xs) (arg 1 xs) 0) (filled (recordSize (arg 0 xs)) (drop 2 xs))))
     (cond (eqb tag 5) (judge S (S .kept) xs)
     (judge S (S .after) xs))))))
 
 unfoldable pub after : State → List (List ℕ) → State
-unfolding passes lookup performLookup path uuidText run onRun write wordOf wordsOf countsIn runsOf arg filled namePlaces scalarOf tableOf commitOf queryOf gives partOf resultOf same placesAre holds at start lend set leave judge next
+unfolding passes lookup performLookup path uuidText run onRun write recordSize wordOf wordsOf countsIn runsOf arg filled namePlaces scalarOf tableOf commitOf queryOf gives partOf resultOf same placesAre holds at start lend set leave judge next
 after S [] = S
 after S (x ∷ xs) = after (next S x) xs
 

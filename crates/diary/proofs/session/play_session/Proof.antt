@@ -2,11 +2,11 @@
 use borrow.Author.Needs.{needs}
 use mathlib.Core.Path.{_∙_}
 use Rattle.ducklake.specs.Calls.{perform}
-use Rattle.diary.specs.Session.{insertThree, insertTwo, deleteOne, deleteZero, after, played}
-use Rattle.diary.proofs.Chains.{promise-on}
-use Rattle.diary.proofs.session.start_diary.Reads as start-diary-reads
-use Rattle.diary.proofs.session.insert_rows.Reads as insert-rows-reads
-use Rattle.diary.proofs.session.delete_rows.Reads as delete-rows-reads
+use Rattle.diary_session.specs.Session.{insertThree, insertTwo, deleteOne, deleteZero, after, played}
+use Rattle.diary_session.proofs.Chains.{promise-on}
+use Rattle.diary_start.proofs.start_diary.Reads as start-diary-reads
+use Rattle.diary_rows.proofs.insert_rows.Reads as insert-rows-reads
+use Rattle.diary_rows.proofs.delete_rows.Reads as delete-rows-reads
 use Rattle.diary.proofs.session.play_session.Statement.{statement}
 use Rattle.diary.proofs.session.play_session.Tie as tie
 use Rattle.diary.proofs.session.play_session.Reads as reads

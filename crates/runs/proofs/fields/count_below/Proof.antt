@@ -1,46 +1,27 @@
--- `count_below` meets its contract: the search by halves keeps, at every turn, the count of what is below x between its two ends.
+-- `count_below` meets its contract: where the word before `near` is below x and that at `near` is not, so many are.
 use borrow.Author.Needs.{needs}
-use Prim.Native.Nat.{_-_, _≤_}
-use mathlib.Core.Path.{_≡_, sym, _∙_}
 use native.Mathlib.Omega.{arith}
-use lib.Dec.{ltb}
-use Rattle.lists.specs.Lists.{count}
-use Rattle.lists.specs.Runs.{field, fields}
 use Rattle.lists.proofs.Runs.{record-fits}
-use Rattle.lists.proofs.Search.{below, below-start, below-up, below-down, below-end}
+use Rattle.runs.proofs.Places.{inside, parted-below}
 use Rattle.runs.proofs.fields.count_below.Statement.{statement}
 use Rattle.runs.proofs.fields.count_below.Tie as tie
 
-abbrev Inv-loop : tie.InvT-loop
-Inv-loop w size at n x lo₀ hi₀ lo hi = (lo ≤ hi) × (hi ≤ n) × (count (λ y. ltb y x) (fields size at w n) ≡ below (field size at w) x lo hi)
+sub-field-at : tie.Need-sub-field-at
+sub-field-at c = let a = c .before .before .args in omega (arith, inside (a .near) (a .n) (c .if1 .taken) .0)
 
-abbrev μ-loop : tie.MeasureT-loop
-μ-loop w size at n x lo₀ hi₀ lo hi = hi - lo
+field-at-requires : tie.Need-field-at-requires
+field-at-requires c κs =
+    let s = c .before .before in
+    let a = s .args in
+    (record-fits _ (omega (arith, inside (a .near) (a .n) (c .if1 .taken) .1)) (s .pre .0), s .pre .1)
 
-loop-holds : tie.Need-loop-holds Inv-loop μ-loop
-loop-holds c = (omega arith, omega arith, below-start _ _ _)
+field-at-requires-2 : tie.Need-field-at-requires-2
+field-at-requires-2 c κs = let s = c .before .before .before .pre in (record-fits _ (inside _ _ (c .before .if1 .taken) .1) (s .0), s .1)
 
-field-at-requires : tie.Need-field-at-requires Inv-loop μ-loop
-field-at-requires c κs = let s = c .before .before .before .pre in (record-fits _ (omega arith) (s .0), s .1)
-
-loop-again : tie.Need-loop-again Inv-loop μ-loop
-loop-again c = (
-  omega arith,
-  omega arith,
-  c .before .before .before .loop .inv .2 ∙ below-up _ _ _ (c .before .before .before .before .before .pre .2) _ _ _ (omega arith) (omega arith) (omega arith) (omega (arith, c .before .field-at .ensures)),
-)
-
-loop-again-2 : tie.Need-loop-again-2 Inv-loop μ-loop
-loop-again-2 c = (
-  omega arith,
-  omega arith,
-  c .before .before .before .loop .inv .2 ∙ below-down _ _ _ (c .before .before .before .before .before .pre .2) _ _ _ (omega arith) (omega arith) (omega arith) (omega (arith, c .before .field-at .ensures)),
-)
-
-returns : tie.Need-returns Inv-loop μ-loop
-returns c = sym (c .before .loop .inv .2 ∙ below-end _ _ _ _ (c .loop-test .left))
+returns : tie.Need-returns
+returns c =
+    let s = c .before .before in
+    parted-below _ _ (s .before .before .before .pre .2) _ (s .before .if1 .taken) _ (s .field-at .ensures) (c .before .field-at2 .ensures) (c .if2 .taken)
 
 pub count-below-spec : {M : Type 1} → statement M
-count-below-spec =
-    tie.close
-    (tie.spec Inv-loop μ-loop loop-holds (λ c. search needs) (λ c. search needs) field-at-requires (λ c. search needs) (λ c. search needs) loop-again (λ c. search needs) loop-again-2 returns)
+count-below-spec = tie.close (tie.spec sub-field-at field-at-requires field-at-requires-2 returns (λ c κs. search needs) (λ c. search needs))

@@ -1,21 +1,51 @@
--- `keys_differ` meets its contract: in a sorted permutation neighbours differ just where all do.
+-- `keys_differ` meets its contract: whether any two are equal is decided by the places left.
 use borrow.Author.Needs.{needs}
-use mathlib.Core.Path.{_∙_}
-use Rattle.sorting.proofs.KeyOrder.{keyed-permuted, keyed-range, distinct-sorted}
+use mathlib.Core.Path.{sym, ap, _∙_}
+use native.Mathlib.Omega.{arith}
+use lib.ListN.{length-take}
+use lib.Seq.{length-take-le}
+use Rattle.lists.specs.Lists.{pairwise}
+use Rattle.lists.proofs.Loops.{length-range}
+use Rattle.sorting.proofs.KeyOrder.{keyed-range}
+use Rattle.sorting.proofs.Crowding.{thinned-keyed, distinct-thinned}
 use Rattle.sorting.proofs.distinct.keys_differ.Statement.{statement}
 use Rattle.sorting.proofs.distinct.keys_differ.Tie as tie
 
-neighbours-differ-requires : tie.Need-neighbours-differ-requires
-neighbours-differ-requires c κs =
-    let s = c .before .before .before .before .before in
-    keyed-permuted _ _ _ _ (s .sort-places .ensures .1) (keyed-range _ _ _ (s .before .before .before .before .before .before .pre .0))
+thin-requires : tie.Need-thin-requires
+thin-requires c κs =
+    let n = c .before .before .before .before in
+    let p = n .before .before .before .before .before .pre in
+    (rw (n .number .ensures) (keyed-range _ _ _ (p .0)), omega arith, rw (n .number .ensures, length-range) (p .1))
+
+slice-aggregate-places-differ : tie.Need-slice-aggregate-places-differ
+slice-aggregate-places-differ c =
+    let t = c .before .before .before .before .before .thin in sym (length-take-le _ (t .last .1 .1 .1 .0) (omega (arith, t .ensures .0, t .ensures .1)))
+
+slice-aggregate-places-differ-2 : tie.Need-slice-aggregate-places-differ-2
+slice-aggregate-places-differ-2 c =
+    let f = c .before .before .before .before .before .before in
+    let n = f .before .before .before .before .before in
+    let t = f .thin in
+    sym (length-take-le _ (t .last .1 .1 .1 .1 .0) (omega (arith, n .before .before .before .before .before .pre .1, n .number .kept .0, t .kept .1 .1 .1 .1 .0, t .ensures .1)))
+
+places-differ-requires : tie.Need-places-differ-requires
+places-differ-requires c κs =
+    let f = c .before .before .before .before .before .before in
+    let n = f .before .before .before .before .before in
+    let p = n .before .before .before .before .before .pre in
+    let t = f .thin in (
+      thinned-keyed _ _ _ (t .ensures .2) (rw (n .number .ensures) (keyed-range _ _ _ (p .0))),
+      simp length-take (omega (arith, p .1, n .number .kept .0, t .kept .1 .1 .1 .1 .0, t .ensures .0)),
+    )
 
 returns : tie.Need-returns
 returns c =
-    let s = c .before .before .before .before .before .before in
-    c .neighbours-differ .ensures ∙ distinct-sorted _ _ _ _ (s .sort-places .ensures .1) (s .sort-places .ensures .2)
+    let d = c .before .before .before .before in
+    let f = d .before .before .before .before .before .before .before in
+    let n = f .before .before .before .before .before in
+    d .places-differ .ensures ∙ (distinct-thinned _ _ (f .thin .ensures .2) ∙ ap (pairwise _) (n .number .ensures))
 
 pub keys-differ-spec : {M : Type 1} → statement M
 keys-differ-spec =
     tie.close
-    (tie.spec (λ c κs. search needs) neighbours-differ-requires (λ c. search needs) (λ c. search needs) returns)
+    (tie.spec (λ c κs. search needs) thin-requires (λ c. search needs) slice-aggregate-places-differ (λ c. search needs) slice-aggregate-places-differ-2 places-differ-requires (λ c. search needs) (λ c. search needs) returns)

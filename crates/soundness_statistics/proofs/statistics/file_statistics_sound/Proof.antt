@@ -15,24 +15,24 @@ use Rattle.soundness_statistics.proofs.statistics.file_statistics_sound
 use Rattle.soundness_statistics.proofs.statistics.file_statistics_sound.Tie as tie
 
 abbrev Inv-loop : tie.InvT-loop
-Inv-loop columns n statistics m file own given c₀ x₀ c x =
+Inv-loop columns n statistics m given file own c₀ x₀ c x =
     (c ≤ own .end) × (own .end ≤ n) × (x ≤ given .end) × (given .end ≤ m)
     × ((names : List ℕ) → fileStatisticsSound (columnsIn columns names n) (statisticsIn statistics m) (dataFileOf file)
     ≡ judged columns names statistics (file .«record_count») (file .begin .0) (own .end) (given .end) c x)
 
 abbrev μ-loop : tie.MeasureT-loop
-μ-loop columns n statistics m file own given c₀ x₀ c x = own .end - c
+μ-loop columns n statistics m given file own c₀ x₀ c x = own .end - c
 
 loop-holds : tie.Need-loop-holds Inv-loop μ-loop
 loop-holds c =
-    let a = c .before .columns-of .ensures in
-    let b = c .statistics-of .ensures in
+    let a = c .columns-of .ensures in
+    let b = c .before .before .before .pre .2 in
     (a .order, a .most, b .order, b .most, λ names. judged-start _ names _ _ _ _ a b)
 
 column-at-requires : tie.Need-column-at-requires Inv-loop μ-loop
 column-at-requires c κs =
     let s = c .before .before in
-    record-fits columnSize (lt-of-lt-of-le (c .if1 .taken) (s .loop .inv .1)) (s .before .before .before .before .before .pre .0 .lent)
+    record-fits columnSize (lt-of-lt-of-le (c .if1 .taken) (s .loop .inv .1)) (s .before .before .before .before .pre .0 .lent)
 
 returns : tie.Need-returns Inv-loop μ-loop
 returns c names =
@@ -44,7 +44,7 @@ returns c names =
 statistics-at-requires : tie.Need-statistics-at-requires Inv-loop μ-loop
 statistics-at-requires c κs =
     let s = c .before .before .before .before .before .before .before in
-    record-fits statisticsSize (lt-of-lt-of-le (c .if3 .left) (s .loop .inv .3)) (s .before .before .before .before .before .pre .1 .lent)
+    record-fits statisticsSize (lt-of-lt-of-le (c .if3 .left) (s .loop .inv .3)) (s .before .before .before .before .pre .1 .lent)
 
 returns-2 : tie.Need-returns-2 Inv-loop μ-loop
 returns-2 c names =
@@ -86,5 +86,5 @@ returns-3 c names = let l = c .before .before .before .loop .inv in sym (l .4 na
 pub file-statistics-sound-spec : {M : Type 1} → statement M
 file-statistics-sound-spec =
     tie.close
-    (tie.spec Inv-loop μ-loop (λ c κs. search needs) (λ c κs. search needs) loop-holds column-at-requires (λ c. omega (arith, c .before .if1 .taken)) (λ c κs. search needs) returns statistics-at-requires
+    (tie.spec Inv-loop μ-loop (λ c κs. search needs) loop-holds column-at-requires (λ c. omega (arith, c .before .if1 .taken)) (λ c κs. search needs) returns statistics-at-requires
     (λ c κs. search needs) returns-2 (λ c. omega (arith, c .before .before .before .if3 .left)) (λ c. search needs) loop-again (λ c. search needs) loop-again-2 returns-3)

@@ -1,0 +1,2 @@
+pub mod NameBytes
+pub mod NameWords

@@ -1,0 +1,46 @@
+-- `count_hashes` meets its contract: at every turn the hashes so far are counted.
+use borrow.Author.Needs.{needs}
+use Prim.Native.Nat.{_-_, _≤_}
+use mathlib.Core.Path.{_≡_, refl, _∙_}
+use native.Mathlib.Omega.{arith}
+use lib.ListN.{length, take, length-set}
+use lib.Seq.{take-all}
+use Rattle.sorting.specs.Crowded.{Counted}
+use Rattle.sorting.proofs.Crowding.{counted-next, hash-in}
+use Rattle.sorting.proofs.crowded.count_hashes.Statement.{statement}
+use Rattle.sorting.proofs.crowded.count_hashes.Tie as tie
+
+abbrev Inv-loop : tie.InvT-loop
+Inv-loop hashes counts₀ n i₀ counts i = (i ≤ length hashes) × (length counts ≡ length counts₀) × Counted (take i hashes) counts
+
+abbrev μ-loop : tie.MeasureT-loop
+μ-loop hashes counts₀ n i₀ counts i = length hashes - i
+
+loop-holds : tie.Need-loop-holds Inv-loop μ-loop
+loop-holds c = (omega arith, refl, c .before .before .pre .0)
+
+slice-read-one-more : tie.Need-slice-read-one-more Inv-loop μ-loop
+slice-read-one-more c =
+    omega (arith, c .before .before .before .loop .inv .1, hash-in _ _ _ (c .before .before .before .before .before .before .pre .1) (c .before .before .loop-test .taken))
+
+slice-write-counts : tie.Need-slice-write-counts Inv-loop μ-loop
+slice-write-counts c =
+    omega (arith, c .before .before .before .before .loop .inv .1, hash-in _ _ _ (c .before .before .before .before .before .before .before .pre .1) (c .before .before .before .loop-test .taken))
+
+loop-again : tie.Need-loop-again Inv-loop μ-loop
+loop-again c =
+    let s = c .before .before .before in
+    let l = s .before .loop in
+    let g = hash-in _ _ _ (s .before .before .before .before .pre .1) (s .loop-test .taken) in
+    (omega (arith, s .loop-test .taken), rw length-set (l .inv .1), counted-next _ _ _ (s .loop-test .taken) (omega (arith, l .inv .1, g)) (c .one-more .ensures) (l .inv .2))
+
+same-length : tie.Need-same-length Inv-loop μ-loop
+same-length c = c .before .loop .inv .1
+
+returns : tie.Need-returns Inv-loop μ-loop
+returns c = let l = c .before .loop in (l .inv .1, rw (take-all (l .i) _ (c .loop-test .left)) at (l .inv .2))
+
+pub count-hashes-spec : {M : Type 1} → statement M
+count-hashes-spec =
+    tie.close
+    (tie.spec Inv-loop μ-loop loop-holds (λ c. search needs) (λ c. search needs) slice-read-one-more (λ c κs. search needs) slice-write-counts (λ c. search needs) (λ c. search needs) loop-again same-length returns)

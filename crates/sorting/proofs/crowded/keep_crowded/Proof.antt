@@ -1,0 +1,37 @@
+-- `keep_crowded` meets its contract: each place has its hash, each hash its count, and two places that agree have one hash.
+use borrow.Author.Needs.{needs}
+use Prim.Native.Nat.{ℕ}
+use mathlib.Core.Path.{ap, _∙_}
+use lib.ListN.{length, replicate, length-map, length-replicate}
+use Rattle.sorting.specs.Crowded.{hashLimit}
+use Rattle.sorting.proofs.Crowding.{hashes-below, counted-none, thinned}
+use Rattle.sorting.proofs.crowded.keep_crowded.Statement.{statement}
+use Rattle.sorting.proofs.crowded.keep_crowded.Tie as tie
+
+count-hashes-requires : tie.Need-count-hashes-requires
+count-hashes-requires c κs =
+    let h = c .before .before .before .before in
+    let a = h .before .before .before .before .before .before .args in
+    (counted-none hashLimit, hashes-below (a .second) (a .used) (a .size) (a .keys .now) (a .w .now) (replicate hashLimit 0) (h .hash-places .ensures) (length-replicate {A = ℕ} hashLimit 0))
+
+keep-requires : tie.Need-keep-requires
+keep-requires c κs =
+    let n = c .before .before .before .before in
+    let h = n .before .before .before .before .before in
+    let s = h .before .before .before .before .before .before in
+    let a = s .args in
+    (ap length (h .hash-places .ensures) ∙ length-map (a .w .now) _, hashes-below (a .second) (a .used) (a .size) (a .keys .now) (a .w .now) _ (h .hash-places .ensures) (n .count-hashes .ensures .0 ∙ length-replicate {A = ℕ} hashLimit 0))
+
+returns : tie.Need-returns
+returns c =
+    let k = c .before .before in
+    let n = k .before .before .before .before .before in
+    let h = n .before .before .before .before .before in
+    let a = h .before .before .before .before .before .before .args in
+    let e = k .keep .ensures in
+    (e .0, e .1, thinned (a .second) (a .used) (a .size) (a .keys .now) (a .w .now) (h .hash-places .ensures) (n .count-hashes .ensures .1) (e .2 _ (h .hash-places .ensures)))
+
+pub keep-crowded-spec : {M : Type 1} → statement M
+keep-crowded-spec =
+    tie.close
+    (tie.spec (λ c κs. search needs) (λ c. search needs) count-hashes-requires (λ c. search needs) keep-requires (λ c. search needs) (λ c. search needs) returns)

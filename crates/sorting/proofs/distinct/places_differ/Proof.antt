@@ -1,0 +1,21 @@
+-- `places_differ` meets its contract: in a sorted permutation neighbours differ just where all do.
+use borrow.Author.Needs.{needs}
+use mathlib.Core.Path.{_∙_}
+use Rattle.sorting.proofs.KeyOrder.{keyed-permuted, distinct-sorted}
+use Rattle.sorting.proofs.distinct.places_differ.Statement.{statement}
+use Rattle.sorting.proofs.distinct.places_differ.Tie as tie
+
+neighbours-differ-requires : tie.Need-neighbours-differ-requires
+neighbours-differ-requires c κs =
+    let s = c .before .before .before .before .before in
+    keyed-permuted _ _ _ _ (s .sort .ensures .1) (s .before .before .before .before .before .before .pre .0)
+
+returns : tie.Need-returns
+returns c =
+    let s = c .before .before .before .before .before .before in
+    c .neighbours-differ .ensures ∙ distinct-sorted _ _ _ _ (s .sort .ensures .1) (s .sort .ensures .2)
+
+pub places-differ-spec : {M : Type 1} → statement M
+places-differ-spec =
+    tie.close
+    (tie.spec (λ c κs. search needs) neighbours-differ-requires (λ c. search needs) (λ c. search needs) returns)

@@ -1,0 +1,49 @@
+-- Hashes of keys; places without those whose hash no other place has.
+use Prim.Native.Nat.{ℕ, _+_, _*_, _%_, min}
+use mathlib.Core.Path.{_≡_}
+use mathlib.Core.List.{List, [], _∷_}
+use mathlib.Core.Bool.{Bool, true, false, cond}
+use lib.Dec.{ltb, eqb}
+use lib.ListN.{length, getD}
+use Rattle.lists.specs.Lists.{all, pairwise, count}
+use Rattle.lists.specs.Runs.{from, field}
+use Rattle.sorting.specs.Keys.{sameWords}
+
+-- the first words of a key, and whether those of two keys agree
+abbrev pub prefixAt : ℕ → ℕ → List ℕ → ℕ → List ℕ
+prefixAt used size run i = from (λ k. field size k run i) 0 used
+
+abbrev pub samePrefix : ℕ → ℕ → List ℕ → ℕ → ℕ → Bool
+samePrefix used size run i j = sameWords (prefixAt used size run i) (prefixAt used size run j)
+
+-- a hash is a remainder by one of two primes: below the limit, the greater of them
+abbrev pub modulus : Bool → ℕ
+modulus second = cond second 65519 65521
+
+abbrev pub hashLimit : ℕ
+hashLimit = 65521
+
+-- the hash of the words that follow others whose hash is h
+unfoldable pub hashFrom : ℕ → ℕ → List ℕ → ℕ
+hashFrom m h [] = h
+hashFrom m h (x ∷ xs) = hashFrom m ((h * 40503 + x % m) % m) xs
+
+abbrev pub hashAt : Bool → ℕ → ℕ → List ℕ → ℕ → ℕ
+hashAt second used size run i = hashFrom (modulus second) 0 (prefixAt used size run i)
+
+-- how often each hash occurs, up to twice
+pub record Counted (hashes counts : List ℕ) : Type 0 where
+  pub counted : (h : ℕ) → getD counts h 0 ≡ min 2 (count (eqb h) hashes)
+
+-- a hash that occurs twice or more
+abbrev pub crowded : List ℕ → ℕ → Bool
+crowded counts h = ltb 1 (getD counts h 0)
+
+-- each hash has a count
+pub record Hashes (hashes counts : List ℕ) : Type 0 where
+  pub below : all (λ h. ltb h (length counts)) hashes ≡ true
+
+-- places of which some are left out: what holds of any two whose first `used` words differ is decided by those left
+pub record Thinned (size used : ℕ) (run old new : List ℕ) : Type 0 where
+  pub decided : (R : ℕ → ℕ → Bool) → ((i j : ℕ) → samePrefix used size run i j ≡ false → R i j ≡ true) → pairwise R new ≡ pairwise R old
+  pub within : (P : ℕ → Bool) → all P old ≡ true → all P new ≡ true

@@ -1,0 +1,63 @@
+-- `lives_apart` meets its contract: whether any two clash is decided by the places left.
+use borrow.Author.Needs.{needs}
+use mathlib.Core.Path.{sym, ap, _∙_}
+use native.Mathlib.Omega.{arith}
+use lib.Dec.{ltb}
+use lib.ListN.{length, length-take}
+use lib.Seq.{length-take-le}
+use Rattle.lists.specs.Lists.{pairwise}
+use Rattle.lists.proofs.Loops.{length-range}
+use Rattle.sorting.proofs.Crowding.{thinned-keyed}
+use Rattle.sorting.proofs.Groups.{within-range}
+use Rattle.sorting.proofs.KeyOrder.{keyed-range}
+use Rattle.soundness_unique.proofs.LifeOrder.{thinned-lent, lives-thinned}
+use Rattle.soundness_unique.proofs.naming.lives_apart.Statement.{statement}
+use Rattle.soundness_unique.proofs.naming.lives_apart.Tie as tie
+
+add-key-size : tie.Need-add-key-size
+add-key-size c = omega (arith, c .before .before .before .before .before .before .before .before .pre .0 .short)
+
+thin-requires : tie.Need-thin-requires
+thin-requires c κs =
+    let n = c .before .before .before .before in
+    let p = n .before .before .before .before .before .before .pre in
+    (rw (n .number .ensures) (keyed-range _ _ _ (p .0 .room)), omega arith, rw (n .number .ensures, length-range) (p .1))
+
+slice-aggregate-places-apart : tie.Need-slice-aggregate-places-apart
+slice-aggregate-places-apart c =
+    let t = c .before .before .before .before .before .thin in sym (length-take-le _ (t .last .1 .1 .1 .0) (omega (arith, t .ensures .0, t .ensures .1)))
+
+slice-aggregate-places-apart-2 : tie.Need-slice-aggregate-places-apart-2
+slice-aggregate-places-apart-2 c =
+    let f = c .before .before .before .before .before .before in
+    let n = f .before .before .before .before .before in
+    let t = f .thin in
+    sym (length-take-le _ (t .last .1 .1 .1 .1 .0) (omega (arith, n .before .before .before .before .before .before .pre .1, n .number .kept .0, t .kept .1 .1 .1 .1 .0, t .ensures .1)))
+
+places-apart-requires : tie.Need-places-apart-requires
+places-apart-requires c κs =
+    let f = c .before .before .before .before .before .before in
+    let n = f .before .before .before .before .before in
+    let p = n .before .before .before .before .before .before .pre in
+    let t = f .thin in (
+      thinned-keyed _ _ _ (t .ensures .2) (rw (n .number .ensures) (keyed-range _ _ _ (p .0 .room))),
+      thinned-lent _ _ (t .ensures .2) (rw (n .number .ensures) (keyed-range _ _ _ (p .0 .living .lent))),
+      p .0 .short,
+      p .0 .living .inside,
+      simp length-take (omega (arith, p .1, n .number .kept .0, t .kept .1 .1 .1 .1 .0, t .ensures .0)),
+    )
+
+returns : tie.Need-returns
+returns c =
+    let d = c .before .before .before .before in
+    let f = d .before .before .before .before .before .before .before in
+    let n = f .before .before .before .before .before in
+    let s = n .before .before .before .before .before .before in
+    let m = length (s .args .w .now) in
+    d .places-apart .ensures m (s .pre .0) (f .thin .ensures .2 .within (λ p. ltb p m) (rw (n .number .ensures) (within-range m)))
+    ∙ (lives-thinned _ _ _ _ _ (s .pre .0) (f .thin .ensures .2) ∙ ap (pairwise _) (n .number .ensures))
+
+pub lives-apart-spec : {M : Type 1} → statement M
+lives-apart-spec =
+    tie.close
+    (tie.spec (λ c κs. search needs) add-key-size thin-requires (λ c. search needs) slice-aggregate-places-apart (λ c. search needs) slice-aggregate-places-apart-2 places-apart-requires (λ c. search needs) (λ c. search needs) returns)

@@ -1,0 +1,47 @@
+-- `neighbours_apart` meets its contract: the loop compares each two that follow each other.
+use borrow.Author.Needs.{needs}
+use Prim.Native.Nat.{_-_, _≤_}
+use mathlib.Core.Path.{_≡_, refl, sym, _∙_}
+use native.Mathlib.Omega.{arith}
+use lib.ListN.{length, drop}
+use Rattle.lists.specs.Lists.{chained}
+use Rattle.lists.proofs.Tests.{passed, failed}
+use Rattle.sorting.proofs.KeyOrder.{keyed-at}
+use Rattle.sorting.proofs.Passes.{chain-on, chain-stop, chain-end}
+use Rattle.soundness_unique.specs.Naming.{keysApart}
+use Rattle.soundness_unique.proofs.naming.neighbours_apart.Statement.{statement}
+use Rattle.soundness_unique.proofs.naming.neighbours_apart.Tie as tie
+
+abbrev Inv-loop : tie.InvT-loop
+Inv-loop keys used table size begin w n i₀ i = (i ≤ length w) × (chained (keysApart used keys size begin table) w ≡ chained (keysApart used keys size begin table) (drop i w))
+
+abbrev μ-loop : tie.MeasureT-loop
+μ-loop keys used table size begin w n i₀ i = length w - i
+
+loop-holds : tie.Need-loop-holds Inv-loop μ-loop
+loop-holds c = (omega arith, refl)
+
+keys-apart-requires : tie.Need-keys-apart-requires Inv-loop μ-loop
+keys-apart-requires c κs =
+    let s = c .before .before in
+    let p = s .before .before .before .before .before .pre in
+    let t = s .loop-test .taken in
+    (keyed-at _ _ _ _ (p .0) (omega (arith, t)), keyed-at _ _ _ _ (p .0) t, keyed-at _ _ _ _ (p .1) (omega (arith, t)), keyed-at _ _ _ _ (p .1) t, p .2)
+
+returns : tie.Need-returns Inv-loop μ-loop
+returns c =
+    let s = c .before .before .before .before in
+    sym (s .before .loop .inv .1 ∙ chain-stop _ _ _ (s .loop-test .taken) (failed (c .before .keys-apart .ensures) (c .if1 .taken)))
+
+loop-again : tie.Need-loop-again Inv-loop μ-loop
+loop-again c =
+    let s = c .before .before .before .before in
+    (omega (arith, s .loop-test .taken), s .before .loop .inv .1 ∙ chain-on _ _ _ (s .loop-test .taken) (passed (c .before .keys-apart .ensures) (c .if1 .left)))
+
+returns-2 : tie.Need-returns-2 Inv-loop μ-loop
+returns-2 c = sym (c .before .loop .inv .1 ∙ chain-end _ _ _ (c .loop-test .left))
+
+pub neighbours-apart-spec : {M : Type 1} → statement M
+neighbours-apart-spec =
+    tie.close
+    (tie.spec Inv-loop μ-loop loop-holds (λ c. search needs) (λ c. search needs) (λ c. search needs) (λ c. search needs) (λ c. search needs) (λ c. search needs) keys-apart-requires returns (λ c. search needs) (λ c. search needs) loop-again returns-2)

@@ -1,0 +1,28 @@
+-- `orders_apart_by` meets its contract: keys of table, order and begin were put, and by them orders are compared.
+use borrow.Author.Needs.{needs}
+use mathlib.Core.Path.{sym, _∙_}
+use Rattle.soundness_unique.proofs.NameKeys.{orders-keyed, orders-are}
+use Rattle.soundness_unique.proofs.naming.orders_apart_by.Statement.{statement}
+use Rattle.soundness_unique.proofs.naming.orders_apart_by.Tie as tie
+
+lives-apart-requires : tie.Need-lives-apart-requires
+lives-apart-requires c κs =
+    let third = c .before .before .before .before .before in
+    let second = third .before .before .before .before in
+    let first = second .before .before .before .before in
+    let p = first .before .before .before .before .before .before .pre in
+    (orders-keyed _ _ (p .0) (first .put-words .ensures) (second .put-words2 .ensures) (third .put-words3 .ensures) (p .1 .places) (p .1 .room), p .1 .scratch ∙ sym (p .1 .places))
+
+returns : tie.Need-returns
+returns c =
+    let l = c .before .before .before .before in
+    let third = l .before .before .before .before .before .before in
+    let second = third .before .before .before .before in
+    let first = second .before .before .before .before in
+    let p = first .before .before .before .before .before .before .pre in
+    orders-are _ _ (p .0) (first .put-words .ensures) (second .put-words2 .ensures) (third .put-words3 .ensures) (p .1 .places) (l .lives-apart .ensures)
+
+pub orders-apart-by-spec : {M : Type 1} → statement M
+orders-apart-by-spec =
+    tie.close
+    (tie.spec (λ c κs. search needs) (λ c κs. search needs) (λ c κs. search needs) lives-apart-requires (λ c. search needs) (λ c. search needs) (λ c. search needs) returns)

@@ -1,0 +1,24 @@
+-- `places_apart` meets its contract: in order, those that follow each other decide.
+use borrow.Author.Needs.{needs}
+use mathlib.Core.Path.{_∙_}
+use Rattle.sorting.proofs.KeyOrder.{keyed-permuted}
+use Rattle.soundness_unique.proofs.LifeOrder.{lives-sorted}
+use Rattle.soundness_unique.proofs.naming.places_apart.Statement.{statement}
+use Rattle.soundness_unique.proofs.naming.places_apart.Tie as tie
+
+neighbours-apart-requires : tie.Need-neighbours-apart-requires
+neighbours-apart-requires c κs =
+    let s = c .before .before .before .before .before in
+    let p = s .before .before .before .before .before .before .before .pre in
+    let q = s .sort .ensures .1 in
+    (keyed-permuted _ _ _ _ q (p .0), keyed-permuted _ _ _ _ q (p .1), p .3)
+
+returns : tie.Need-returns
+returns c n h m =
+    let s = c .before .before .before .before .before .before in
+    c .neighbours-apart .ensures ∙ lives-sorted _ _ _ _ _ h m (s .sort .ensures .1) (s .sort .ensures .2)
+
+pub places-apart-spec : {M : Type 1} → statement M
+places-apart-spec =
+    tie.close
+    (tie.spec (λ c. search needs) (λ c κs. search needs) neighbours-apart-requires (λ c. search needs) (λ c. search needs) returns)

@@ -1,0 +1,98 @@
+-- Names and orders of records that share a live number: how two are compared, and what the comparison relies on.
+use Prim.Native.Nat.{ℕ, _+_, _*_, _≤_, _<_}
+use mathlib.Core.Path.{_≡_}
+use mathlib.Core.Bool.{Bool, true, not, _||_}
+use mathlib.Core.List.{List}
+use lib.Dec.{ltb, eqb}
+use lib.ListN.{length}
+use Rattle.lists.specs.Runs.{field}
+use Rattle.layout.specs.Fields.{columnSize, columnTableWord, columnOrderWord, columnBeginWord}
+use Rattle.layout.specs.Names.{nameSize, nameAt, isName, sameName}
+use Rattle.ducklake.specs.Soundness.{overlap}
+use Rattle.lookup.specs.Versions.{lifeAt, withLife}
+use Rattle.names.specs.NameWords.{nameWordCount, nameWord}
+use Rattle.sorting.specs.Crowded.{samePrefix}
+use Rattle.soundness_unique.specs.declared.naming.Group.{Group}
+use Rattle.soundness_unique.specs.declared.naming.Group.the-variants.{All, With}
+
+-- so few records take little scratch
+abbrev pub fewRecords : ℕ
+fewRecords = 64
+
+-- keys of names: the group, the words of the name, the begin
+abbrev pub nameKeySize : ℕ
+nameKeySize = 6
+
+abbrev pub nameKeyBegin : ℕ
+nameKeyBegin = 5
+
+-- keys of orders: the table, the order, the begin
+abbrev pub orderKeySize : ℕ
+orderKeySize = 3
+
+abbrev pub orderKeyBegin : ℕ
+orderKeyBegin = 2
+
+-- the number that the records of a group share
+abbrev pub groupOf : Group → ℕ → List ℕ → ℕ → ℕ
+groupOf All size run i = 0
+groupOf (With word) size run i = field size word run i
+
+abbrev pub isInside : Group → ℕ → Bool
+isInside All size = true
+isInside (With word) size = ltb word size
+
+-- records of `size` words with begin and end in the word `begin` and the next: whether two share a live number
+abbrev pub liveTogether : ℕ → ℕ → List ℕ → ℕ → ℕ → Bool
+liveTogether size begin run i j = overlap (withLife (lifeAt size begin run i)) (withLife (lifeAt size begin run j))
+
+-- two that share one have different keys, the begins left aside; different names, if they are of one group; different orders, if of one table
+
+abbrev pub keysApart : ℕ → List ℕ → ℕ → ℕ → List ℕ → ℕ → ℕ → Bool
+keysApart used keys size begin run i j = not (samePrefix used (used + 1) keys i j) || not (liveTogether size begin run i j)
+
+abbrev pub namesApartAt : ℕ → Group → ℕ → List ℕ → List ℕ → ℕ → ℕ → Bool
+namesApartAt size group begin run names i j =
+    not (eqb (groupOf group size run i) (groupOf group size run j)) || not (liveTogether size begin run i j) || not (sameName (nameAt names i) (nameAt names j))
+
+abbrev pub ordersApartAt : List ℕ → ℕ → ℕ → Bool
+ordersApartAt run i j =
+    not (eqb (field columnSize columnTableWord run i) (field columnSize columnTableWord run j)) || not (liveTogether columnSize columnBeginWord run i j)
+    || not (eqb (field columnSize columnOrderWord run i) (field columnSize columnOrderWord run j))
+
+-- n records of `size` words whose lives are not empty
+pub record Living (size begin : ℕ) (run : List ℕ) (n : ℕ) : Type 0 where
+  pub lent : size * n ≤ length run
+  pub inside : begin + 1 < size
+  pub lives : (i : ℕ) → i < n → field size begin run i < field size (begin + 1) run i
+
+-- and keys of them, no longer than those of names, the begin in the last word
+pub record LivesKeyed (used : ℕ) (keys : List ℕ) (size begin : ℕ) (run : List ℕ) (n : ℕ) : Type 0 where
+  pub short : used < nameKeySize
+  pub living : Living size begin run n
+  pub room : (used + 1) * n ≤ length keys
+  pub begins : (i : ℕ) → i < n → field (used + 1) used keys i ≡ field size begin run i
+
+-- and names
+pub record NamesLiving (size : ℕ) (group : Group) (begin : ℕ) (run names : List ℕ) (n : ℕ) : Type 0 where
+  pub living : Living size begin run n
+  pub grouped : isInside group size ≡ true
+  pub namesLent : nameSize * n ≤ length names
+  pub named : (i : ℕ) → i < n → isName (nameAt names i) ≡ true
+
+-- scratch for n keys of `size` words and as many places
+pub record Scratch (size n : ℕ) (keys w v : List ℕ) : Type 0 where
+  pub room : size * n ≤ length keys
+  pub places : length w ≡ n
+  pub scratch : length v ≡ n
+
+-- keys of names, zero as yet, with the numbers of groups put in
+pub record GroupPut (size : ℕ) (group : Group) (run : List ℕ) (n : ℕ) (old new : List ℕ) : Type 0 where
+  pub long : length new ≡ length old
+  pub put : (i : ℕ) → i < n → field nameKeySize 0 new i ≡ groupOf group size run i
+
+-- and with the words of names
+pub record NamesPut (names : List ℕ) (n : ℕ) (old new : List ℕ) : Type 0 where
+  pub long : length new ≡ length old
+  pub words : (i k : ℕ) → i < n → k < nameWordCount → field nameKeySize (k + 1) new i ≡ nameWord (nameAt names i) k
+  pub group : (i : ℕ) → field nameKeySize 0 new i ≡ field nameKeySize 0 old i
