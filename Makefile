@@ -1,8 +1,12 @@
-.PHONY: test run library fuzz bench
+.PHONY: test edits run library fuzz bench costs
 
 # Proves every crate from nothing, tries the must-fail edits, runs the programs and the scripts of tests/.
 test:
 	@sh tests/run
+
+# Every must-fail edit, those that the gate has no time for too: some forty minutes.
+edits:
+	@sh tests/edits
 
 # Proves the program `diary` and what it stands on, saying so on the way, and runs it: document 01's three lines. Minutes the first time, seconds after that.
 run:
@@ -21,3 +25,8 @@ fuzz: library
 bench: library
 	@cargo build --release --offline --quiet --target-dir target/host --manifest-path host/differ/Cargo.toml
 	@target/host/release/differ bench
+
+# The table of docs/CHECK-TIMES.md, 'What a call costs beyond the check', measured here.
+costs: library
+	@cargo build --release --offline --quiet --target-dir target/host --manifest-path host/differ/Cargo.toml
+	@target/host/release/differ costs

@@ -13,7 +13,7 @@
  *   - A run may be longer than whole records need, and longer than the limits below: the rest is not used.
  *   - A call takes less than 512 KiB of the stack, most of it for the check of the tables (measured at the limits).
  *
- * What each call does is `Promise` in crates/ducklake/specs/Calls.antt. Words in quotes are those of document 01.
+ * What each call does is `Promise` in crates/ducklake/specs/Calls.antt, and of the last `firstUnsound` in Soundness.antt beside it. Words in quotes are those of document 01.
  */
 #ifndef GUKOREMO_H
 #define GUKOREMO_H
@@ -260,6 +260,72 @@ static inline const char *gukoremo_sentence(uint64_t number)
     }
 }
 
+/* The lines of 'Sound tables', as gukoremo_first_unsound counts them; the limit of columns stands above them in document 01 and comes last. */
+enum {
+    GUKOREMO_SOUND = 0, /* every line holds */
+    /* "used counts fit the lent lengths and the limits; every field is in its range; padding is zero" */
+    GUKOREMO_FIELDS_LINE = 1,
+    /* "at least one snapshot; snapshot ids ascend strictly; times, schema versions and next ids never fall; change kinds are those below" */
+    GUKOREMO_SNAPSHOTS_LINE = 2,
+    /* "each begin and each end that isn't ABSENT is at most the latest snapshot id; begin < end; every record is live at some retained snapshot" */
+    GUKOREMO_LIVES_LINE = 3,
+    /* "ids ascend strictly in schema, table, data file and delete file, columns by (table id, column id), statistics by (data file id, column id)" */
+    GUKOREMO_ORDER_LINE = 4,
+    /* "schema, table and file ids are below the latest snapshot's next ids; no file id or UUID occurs twice over data files, delete files and scheduled" */
+    GUKOREMO_NEXT_IDS_LINE = 5,
+    /* "a table's life lies within its schema's, a column's is its table's, a data file's lies within its table's, a delete file's within its data file's, and
+       their table ids match" */
+    GUKOREMO_NESTING_LINE = 6,
+    /* "schemas, tables of one schema and columns of one table with a common live snapshot number have different names, such columns also different orders" */
+    GUKOREMO_NAMES_LINE = 7,
+    /* "two delete files of one data file have no common live number; the later holds every position of the earlier; positions ascend strictly below
+       record_count; delete_count is 1 or more and the counts add up to the used positions" */
+    GUKOREMO_DELETES_LINE = 8,
+    /* "row ranges of a table's files ascend with the file id, don't overlap, and end at or below next_row_id" */
+    GUKOREMO_ROWS_LINE = 9,
+    /* "each data file has one statistics record for each column live at its begin, and no other. null_count <= record_count, and 0 where nulls aren't
+       allowed. If all rows are null, min and max are missing; else either may be missing. Given values lie in the type's range, min <= max" */
+    GUKOREMO_STATISTICS_LINE = 10,
+    /* "a table has 1 to 16 live columns at each retained snapshot where it lives" */
+    GUKOREMO_COLUMNS_LINE = 11
+};
+
+/* the sentence of a line */
+static inline const char *gukoremo_line_sentence(uint64_t line)
+{
+    switch (line) {
+    case GUKOREMO_SOUND: return "sound";
+    case GUKOREMO_FIELDS_LINE: return "used counts fit the lent lengths and the limits; every field is in its range; padding is zero";
+    case GUKOREMO_SNAPSHOTS_LINE:
+        return "at least one snapshot; snapshot ids ascend strictly; times, schema versions and next ids never fall; change kinds are those below";
+    case GUKOREMO_LIVES_LINE:
+        return "each begin and each end that isn't ABSENT is at most the latest snapshot id; begin < end; every record is live at some retained "
+               "snapshot";
+    case GUKOREMO_ORDER_LINE:
+        return "ids ascend strictly in schema, table, data file and delete file, columns by (table id, column id), statistics by (data file id, "
+               "column id)";
+    case GUKOREMO_NEXT_IDS_LINE:
+        return "schema, table and file ids are below the latest snapshot's next ids; no file id or UUID occurs twice over data files, delete "
+               "files and scheduled";
+    case GUKOREMO_NESTING_LINE:
+        return "a table's life lies within its schema's, a column's is its table's, a data file's lies within its table's, a delete file's within "
+               "its data file's, and their table ids match";
+    case GUKOREMO_NAMES_LINE:
+        return "schemas, tables of one schema and columns of one table with a common live snapshot number have different names, such columns also "
+               "different orders";
+    case GUKOREMO_DELETES_LINE:
+        return "two delete files of one data file have no common live number; the later holds every position of the earlier; positions ascend "
+               "strictly below record_count; delete_count is 1 or more and the counts add up to the used positions";
+    case GUKOREMO_ROWS_LINE: return "row ranges of a table's files ascend with the file id, don't overlap, and end at or below next_row_id";
+    case GUKOREMO_STATISTICS_LINE:
+        return "each data file has one statistics record for each column live at its begin, and no other. null_count <= record_count, and 0 where "
+               "nulls aren't allowed. If all rows are null, min and max are missing; else either may be missing. Given values lie in the type's "
+               "range, min <= max";
+    case GUKOREMO_COLUMNS_LINE: return "a table has 1 to 16 live columns at each retained snapshot where it lives";
+    default: return "a number that no line has";
+    }
+}
+
 /* The lent runs. A table with names lends as many records as both its runs have places for. */
 
 typedef struct {
@@ -288,7 +354,7 @@ typedef struct {
 } gukoremo_tables;
 
 /* The library's own functions. They have every argument of a call, a run as a pointer and a length, and want pointers that are not null; the functions below
- * them are for callers. Every call has an answer area; only readings and the cleanup answer in it. */
+ * them are for callers. Every call but the last has an answer area; only readings and the cleanup answer in it. */
 
 #define GUKOREMO_CHANGED                                                                                                                       \
     uint64_t *snapshots, size_t snapshots_length, uint64_t *schemas, size_t schemas_length, uint8_t *schema_names, size_t schema_names_length, \
@@ -327,6 +393,7 @@ gukoremo_outcome catalog_list_filtered_files(
 gukoremo_outcome catalog_list_rows(GUKOREMO_READ, gukoremo_snapshot_id snapshot, gukoremo_catalog_id table, GUKOREMO_AREA);
 gukoremo_outcome catalog_snapshot_by_time(GUKOREMO_READ, uint64_t t, GUKOREMO_AREA);
 gukoremo_outcome catalog_copy_file(GUKOREMO_READ, gukoremo_file_id id, GUKOREMO_AREA);
+uint64_t catalog_first_unsound(GUKOREMO_READ);
 
 /* What stands for the null pointer of a run of length 0: a place that is there. Nothing is read or written in it. */
 
@@ -496,6 +563,13 @@ static inline gukoremo_outcome gukoremo_copy_file(
     const gukoremo_tables *runs, gukoremo_counts counts, gukoremo_file_id id, uint64_t *area, size_t area_length)
 {
     return catalog_copy_file(GUKOREMO_LENT(runs), counts, id, GUKOREMO_WORDS(area, area_length));
+}
+
+/* For whoever must mend tables that are refused with GUKOREMO_NOT_SOUND: the first line of 'Sound tables' that doesn't hold, GUKOREMO_SOUND where all do.
+ * Writes nothing, and refuses nothing. */
+static inline uint64_t gukoremo_first_unsound(const gukoremo_tables *runs, gukoremo_counts counts)
+{
+    return catalog_first_unsound(GUKOREMO_LENT(runs), counts);
 }
 
 #undef GUKOREMO_CHANGED

@@ -94,9 +94,10 @@ impl Case {
             }
             3 => write(&mut self.after[run], place, rest(4)),
             4 => {
-                let mut name = rest(3).to_vec();
-                name.resize(name.len().max(NAME_SIZE), 0);
-                write(&mut self.after[run], NAME_SIZE * record, &name);
+                let size = *SIZES.get(run).unwrap_or(&0);
+                let mut words = rest(3).to_vec();
+                words.resize(words.len().max(size), 0);
+                write(&mut self.after[run], size * record, &words);
             }
             5 => {
                 let call = self.call(line);

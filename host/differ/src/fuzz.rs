@@ -3,6 +3,7 @@
 use crate::limits;
 use crate::random::{self, Find, Tally};
 use crate::script;
+use crate::shapes::Shape;
 use crate::shrink;
 use std::fmt::Write as _;
 use std::io::{IsTerminal, Write as _};
@@ -27,8 +28,8 @@ pub fn bounded(count: &str, seed: &str) -> Result<String, String> {
     let (count, seed) = (number(count)?, number(seed)?);
     let mut tally = Tally::default();
     let said = play(count, seed, &mut tally)?;
-    for free in 0..2 {
-        limits::play(free, &mut tally).map_err(|find| report(&find, 0))?;
+    for (shape, free) in [(Shape::FileEach, 0), (Shape::FileEach, 1), (Shape::HalfEnded, 0)] {
+        limits::play(shape, free, &mut tally)?;
     }
     match unmet(&tally) {
         Some((name, number)) => Err(format!("{said}\nfuzz: no {name} gave {number}")),

@@ -5,6 +5,7 @@ mod arguments;
 mod bench;
 mod catalogue;
 mod conformance;
+mod costs;
 mod damage;
 mod from_cases;
 mod fuzz;
@@ -13,11 +14,15 @@ mod play;
 mod proved;
 mod published;
 mod random;
+mod renumber;
 mod runs;
 mod script;
+mod shapes;
 mod shrink;
 mod sqlite;
+mod stack;
 mod step;
+mod timed;
 mod unmarked;
 
 use std::process::ExitCode;
@@ -29,7 +34,9 @@ const USAGE: &str = "usage:
   differ write CASES FOLDER      the lists of conformance/, from the folder of the proved cases and from dice
   differ play PATH               a list, or a folder of them, against both
   differ published COUNT         the published queries on SQLite, for so many catalogues by dice
-  differ bench [CALL ..]         times of the calls, as ratios";
+  differ bench [CALL ..]         the table of docs/BENCHMARKS.md: times of the calls, as ratios
+  differ costs                   the table of docs/CHECK-TIMES.md: what each call costs beyond the check, in plain passes
+  differ stack                   what each call takes of the stack; fails above 1 MiB";
 
 fn main() -> ExitCode {
     let arguments: Vec<String> = std::env::args().skip(1).collect();
@@ -43,6 +50,8 @@ fn main() -> ExitCode {
         ["play", path] => conformance::check(path),
         ["published", count] => published::run(count),
         ["bench", ref calls @ ..] => bench::run(calls),
+        ["costs"] => costs::run(),
+        ["stack"] => stack::run(),
         _ => Err(USAGE.to_string()),
     };
     match done {

@@ -90,6 +90,9 @@ impl Pair {
         if *proved != expected {
             return Err(format!("the outcome: {}, and {} from the second", shown(proved), shown(other)));
         }
+        if proved.number == 1 {
+            self.compare_lines()?;
+        }
         if !self.proved.margins_hold() {
             return Err("words beside the lent runs are not as they were".to_string());
         }
@@ -99,6 +102,16 @@ impl Pair {
         for (run, bytes) in runs::name_runs(&self.second.words).into_iter().enumerate() {
             let run = FIRST_NAMES + run;
             difference(RUNS[run], self.proved.bytes(run), bytes)?;
+        }
+        Ok(())
+    }
+
+    /// Of tables that are not sound, the line that fails first.
+    fn compare_lines(&self) -> Result<(), String> {
+        let line = self.proved.first_unsound();
+        let other = load(&self.second.words, &self.second.counts).map_or_else(|unsound| u64::from(unsound.rule), |_| 0);
+        if line != other {
+            return Err(format!("the first unsound line: {line}, and {other} from the second"));
         }
         Ok(())
     }

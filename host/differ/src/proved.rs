@@ -1,7 +1,8 @@
 //! The compiled calls on tables of their own, each run lent between words that no call may touch.
 
 use crate::catalogue::Catalogue;
-use crate::runs::FIRST_NAMES;
+use crate::runs::{self, FIRST_NAMES, SIZES};
+use crate::step::Step;
 use gukoremo::{raw, CatalogId, FileId, SnapshotId, Tables, TablesView, Uuid};
 use second::{Call, Counts, Outcome, Reading};
 
@@ -75,6 +76,11 @@ impl Proved {
         self.margins_hold
     }
 
+    /// Which line of 'Sound tables' fails first, or 0.
+    pub fn first_unsound(&self) -> u64 {
+        raw::first_unsound(self.view(), counts_to(&self.counts))
+    }
+
     fn tables(&mut self) -> Tables<'_> {
         let [snapshots, schemas, tables, columns, data_files, delete_files, positions, statistics, scheduled] =
             self.words.each_mut().map(Lent::run_mut);
@@ -122,6 +128,76 @@ impl Proved {
         self.margins_hold = self.margins_hold && lent.margins_hold();
         outcome_of(outcome)
     }
+
+    fn call(&mut self, call: &Call, area: &mut [u64]) -> gukoremo::Outcome {
+        let counts = counts_to(&self.counts);
+        let lent = self.tables();
+        match call {
+            Call::Fresh { time } => raw::fresh(lent, counts, *time, area),
+            Call::CreateSchema { time, name } => raw::create_schema(lent, counts, *time, name, area),
+            Call::DropSchema { time, schema } => raw::drop_schema(lent, counts, *time, CatalogId(*schema), area),
+            Call::CreateTable { time, schema, name, columns, column_names } => {
+                raw::create_table(lent, counts, *time, CatalogId(*schema), name, columns, column_names, area)
+            }
+            Call::DropTable { time, table } => raw::drop_table(lent, counts, *time, CatalogId(*table), area),
+            Call::Insert { time, table, record_count, uuid, statistics } => {
+                raw::insert(lent, counts, *time, CatalogId(*table), *record_count, uuid_of(*uuid), statistics, area)
+            }
+            Call::Delete { time, data_file, uuid, positions } => {
+                raw::delete(lent, counts, *time, FileId(*data_file), uuid_of(*uuid), positions, area)
+            }
+            Call::Expire { ids, time } => raw::expire(lent, counts, ids, *time, area),
+            Call::Cleanup { t } => raw::cleanup(lent, counts, *t, area),
+        }
+    }
+
+    fn reading(&self, reading: &Reading, area: &mut [u64]) -> gukoremo::Outcome {
+        let counts = counts_to(&self.counts);
+        let lent = self.view();
+        match reading {
+            Reading::Schemas { snapshot } => raw::list_schemas(lent, counts, SnapshotId(*snapshot), area),
+            Reading::Tables { snapshot, schema } => raw::list_tables(lent, counts, SnapshotId(*snapshot), CatalogId(*schema), area),
+            Reading::Columns { snapshot, table } => raw::list_columns(lent, counts, SnapshotId(*snapshot), CatalogId(*table), area),
+            Reading::TableByName { snapshot, schema, name } => {
+                raw::table_by_name(lent, counts, SnapshotId(*snapshot), CatalogId(*schema), name, area)
+            }
+            Reading::Files { snapshot, table } => raw::list_files(lent, counts, SnapshotId(*snapshot), CatalogId(*table), area),
+            Reading::FilteredFiles { snapshot, table, column, scalar } => {
+                raw::list_filtered_files(lent, counts, SnapshotId(*snapshot), CatalogId(*table), *column, *scalar as u64, area)
+            }
+            Reading::Rows { snapshot, table } => raw::list_rows(lent, counts, SnapshotId(*snapshot), CatalogId(*table), area),
+            Reading::ByTime { t } => raw::snapshot_by_time(lent, counts, *t, area),
+            Reading::FindFile { id } => raw::copy_file(lent, counts, FileId(*id), area),
+        }
+    }
+
+    /// A step and nothing beside it, to be timed: the area is not lent between margins, the counts are not those of the next call.
+    pub fn bare(&mut self, step: &Step, area: &mut [u64]) -> u64 {
+        match step {
+            Step::Call(call) => self.call(call, area).number,
+            Step::Reading(reading) => self.reading(reading, area).number,
+        }
+    }
+
+    /// The words and bytes of another's runs in the places of these, which are as long.
+    pub fn write_over(&mut self, other: &Proved) {
+        for (run, from) in self.words.iter_mut().zip(&other.words) {
+            run.words.copy_from_slice(&from.words);
+        }
+        for (run, from) in self.names.iter_mut().zip(&other.names) {
+            run.words.copy_from_slice(&from.words);
+        }
+    }
+
+    /// The sum of every used word and name byte.
+    pub fn sum(&self) -> u64 {
+        let used = runs::counts(&self.counts);
+        let length = |run: usize| used[runs::table_of(run)] as usize * SIZES[run];
+        let words = (0..FIRST_NAMES).flat_map(|run| &self.words(run)[..length(run)]);
+        let bytes = (FIRST_NAMES..SIZES.len()).flat_map(|run| &self.bytes(run)[..length(run)]);
+        let sum = words.fold(0_u64, |sum, word| sum.wrapping_add(*word));
+        bytes.fold(sum, |sum, byte| sum.wrapping_add(u64::from(*byte)))
+    }
 }
 
 impl Catalogue for Proved {
@@ -152,27 +228,7 @@ impl Catalogue for Proved {
     }
 
     fn perform(&mut self, call: &Call, area: &mut [u64]) -> Outcome {
-        let counts = counts_to(&self.counts);
-        let given = self.on_area(area, |this, area| {
-            let lent = this.tables();
-            match call {
-                Call::Fresh { time } => raw::fresh(lent, counts, *time, area),
-                Call::CreateSchema { time, name } => raw::create_schema(lent, counts, *time, name, area),
-                Call::DropSchema { time, schema } => raw::drop_schema(lent, counts, *time, CatalogId(*schema), area),
-                Call::CreateTable { time, schema, name, columns, column_names } => {
-                    raw::create_table(lent, counts, *time, CatalogId(*schema), name, columns, column_names, area)
-                }
-                Call::DropTable { time, table } => raw::drop_table(lent, counts, *time, CatalogId(*table), area),
-                Call::Insert { time, table, record_count, uuid, statistics } => {
-                    raw::insert(lent, counts, *time, CatalogId(*table), *record_count, uuid_of(*uuid), statistics, area)
-                }
-                Call::Delete { time, data_file, uuid, positions } => {
-                    raw::delete(lent, counts, *time, FileId(*data_file), uuid_of(*uuid), positions, area)
-                }
-                Call::Expire { ids, time } => raw::expire(lent, counts, ids, *time, area),
-                Call::Cleanup { t } => raw::cleanup(lent, counts, *t, area),
-            }
-        });
+        let given = self.on_area(area, |this, area| this.call(call, area));
         let margins_hold = self.words.iter().all(Lent::margins_hold) && self.names.iter().all(Lent::margins_hold);
         self.margins_hold = self.margins_hold && margins_hold;
         self.counts = given.counts;
@@ -180,25 +236,7 @@ impl Catalogue for Proved {
     }
 
     fn read(&mut self, reading: &Reading, area: &mut [u64]) -> Outcome {
-        let counts = counts_to(&self.counts);
-        self.on_area(area, |this, area| {
-            let lent = this.view();
-            match reading {
-                Reading::Schemas { snapshot } => raw::list_schemas(lent, counts, SnapshotId(*snapshot), area),
-                Reading::Tables { snapshot, schema } => raw::list_tables(lent, counts, SnapshotId(*snapshot), CatalogId(*schema), area),
-                Reading::Columns { snapshot, table } => raw::list_columns(lent, counts, SnapshotId(*snapshot), CatalogId(*table), area),
-                Reading::TableByName { snapshot, schema, name } => {
-                    raw::table_by_name(lent, counts, SnapshotId(*snapshot), CatalogId(*schema), name, area)
-                }
-                Reading::Files { snapshot, table } => raw::list_files(lent, counts, SnapshotId(*snapshot), CatalogId(*table), area),
-                Reading::FilteredFiles { snapshot, table, column, scalar } => {
-                    raw::list_filtered_files(lent, counts, SnapshotId(*snapshot), CatalogId(*table), *column, *scalar as u64, area)
-                }
-                Reading::Rows { snapshot, table } => raw::list_rows(lent, counts, SnapshotId(*snapshot), CatalogId(*table), area),
-                Reading::ByTime { t } => raw::snapshot_by_time(lent, counts, *t, area),
-                Reading::FindFile { id } => raw::copy_file(lent, counts, FileId(*id), area),
-            }
-        })
+        self.on_area(area, |this, area| this.reading(reading, area))
     }
 
     fn counts(&self) -> Counts {

@@ -1,8 +1,9 @@
-//! The smallest list that still shows a difference: lines are dropped, then arguments made simpler, until nothing more goes.
+//! The smallest list that still shows a difference: lines are dropped, commits with the ids that they gave, then arguments made simpler, until nothing more goes.
 
 use crate::catalogue::Catalogue;
 use crate::play::{self, Pair};
 use crate::random::Find;
+use crate::renumber;
 use crate::runs::{SCHEDULED, SIZES};
 use crate::script::Line;
 use crate::step::{self, Argument, Step};
@@ -51,55 +52,97 @@ fn demand_3(lines: &[Line]) -> Option<(usize, String)> {
 
 /// Shrinks a find for so long at most.
 pub fn shrink(find: &Find, limit: Duration) -> (Vec<Line>, String) {
-    let until = Instant::now() + limit;
-    let mut best = (find.lines.clone(), find.how.clone());
-    let take = |best: &mut (Vec<Line>, String), lines: Vec<Line>| match shows(&lines, find.of_demand_3) {
-        Some((at, how)) => {
-            *best = (lines[..=at].to_vec(), how);
-            true
-        }
-        None => false,
-    };
-    take(&mut best, find.lines.clone());
+    let mut shrinking = Shrinking { of_demand_3: find.of_demand_3, until: Instant::now() + limit, lines: find.lines.clone(), how: find.how.clone() };
+    shrinking.take(find.lines.clone());
     loop {
-        let before = best.0.len() + best.0.iter().map(weight).sum::<usize>();
-        let mut size = best.0.len().next_power_of_two();
+        let before = shrinking.written();
+        shrinking.drop_lines();
+        shrinking.drop_commits();
+        shrinking.lower_lines();
+        if shrinking.written() >= before || Instant::now() >= shrinking.until {
+            return (shrinking.lines, shrinking.how);
+        }
+    }
+}
+
+/// The smallest list so far, and what it shows.
+struct Shrinking {
+    of_demand_3: bool,
+    until: Instant,
+    lines: Vec<Line>,
+    how: String,
+}
+
+impl Shrinking {
+    /// Takes other lines if they show something too, up to the line that does.
+    fn take(&mut self, lines: Vec<Line>) -> bool {
+        if Instant::now() >= self.until {
+            return false;
+        }
+        let shown = shows(&lines, self.of_demand_3);
+        let shows = shown.is_some();
+        if let Some((at, how)) = shown {
+            self.lines = lines[..=at].to_vec();
+            self.how = how;
+        }
+        shows
+    }
+
+    /// How much is written in the lines.
+    fn written(&self) -> usize {
+        self.lines.iter().map(|line| 1 + line.to_string().len()).sum()
+    }
+
+    /// Half of the lines, a quarter, and so on to each by itself.
+    fn drop_lines(&mut self) {
+        let mut size = self.lines.len().next_power_of_two();
         while size > 0 {
             let mut from = 0;
-            while from < best.0.len() && Instant::now() < until {
-                let lines = [&best.0[..from], &best.0[(from + size).min(best.0.len())..]].concat();
-                if !take(&mut best, lines) {
+            while from < self.lines.len() {
+                let lines = [&self.lines[..from], &self.lines[(from + size).min(self.lines.len())..]].concat();
+                if !self.take(lines) {
                     from += size;
                 }
             }
             size /= 2;
         }
-        let mut at = 0;
-        while at < best.0.len() {
-            let mut simpler = simpler(&best.0[at]).into_iter();
-            while let Some(line) = simpler.next().filter(|_| Instant::now() < until) {
-                let mut lines = best.0.clone();
-                lines[at] = line;
-                if take(&mut best, lines) {
-                    break;
-                }
+    }
+
+    /// Commits whose ids others come after, from the last; then columns.
+    fn drop_commits(&mut self) {
+        for at in (0..self.lines.len()).rev() {
+            if let Some(lines) = renumber::without(&self.lines, at) {
+                self.take(lines);
             }
-            at += 1;
         }
-        let after = best.0.len() + best.0.iter().map(weight).sum::<usize>();
-        if after >= before || Instant::now() >= until {
-            return best;
+        let _ = (1..3).any(|columns| self.take(renumber::narrower(&self.lines, columns)));
+    }
+
+    /// Each line as simple as it goes, from the last, on which the others depend.
+    fn lower_lines(&mut self) {
+        let mut at = self.lines.len();
+        while at > 0 {
+            at -= 1;
+            while self.lower_line(at) {}
         }
+    }
+
+    fn lower_line(&mut self, at: usize) -> bool {
+        let Some(line) = self.lines.get(at) else { return false };
+        simpler(line).into_iter().any(|line| {
+            let mut lines = self.lines.clone();
+            lines[at] = line;
+            self.take(lines)
+        })
     }
 }
 
-/// How much is written in a line.
-fn weight(line: &Line) -> usize {
-    line.to_string().len()
-}
-
+/// Lower numbers, far ones first.
 fn lower(word: u64) -> Vec<u64> {
-    [0, 1, word / 2, word.wrapping_sub(1)].into_iter().filter(|lower| *lower < word).collect()
+    let nearer = [1, 2, 3, 4].map(|shift| word - (word >> shift));
+    let mut words: Vec<u64> = [0, 1, 2].into_iter().chain(nearer).chain([word.wrapping_sub(1)]).filter(|lower| *lower < word).collect();
+    words.dedup();
+    words
 }
 
 fn simpler(line: &Line) -> Vec<Line> {

@@ -263,7 +263,7 @@ fn readings() -> Vec<Command> {
 fn others() -> Vec<Command> {
     vec![
         Command::new("check")
-            .about("Say whether the tables are sound, or which rule fails first and where")
+            .about("Say whether the tables are sound, or which line of 'Sound tables' fails first and where")
             .after_help("Exit code 0 is sound, 1 is not sound, 65 is a file that is damaged or no catalogue.")
             .arg(file()),
         Command::new("diff")

@@ -47,8 +47,8 @@ fn reason(refusal: Refusal, lake: &Lake, asked: &Asked<'_>) -> (String, String) 
     let thing = asked.thing.clone().unwrap_or_else(|| "it".to_string());
     let (why, advice): (String, &str) = match refusal.number {
         numbers::NOT_SOUND => (
-            "the tables in the file break a rule of 'Sound tables'.".to_string(),
-            "see with 'gukoremo check FILE' which rule and which record, and go back to a copy of the file.",
+            "the tables in the file break a line of 'Sound tables'.".to_string(),
+            "see with 'gukoremo check FILE' which line and which record, and go back to a copy of the file.",
         ),
         numbers::NO_ROOM => (
             format!("of the records that the file has room for these are used: {}.", fullness(lake)),

@@ -6,6 +6,7 @@ use crate::raw;
 use crate::record::{DataFileRecord, DeleteFileRecord, SnapshotRecord, Uuid};
 use crate::refusal::Refusal;
 use crate::tables::{Lend, Tables, TablesView};
+use crate::unsound::Line;
 use crate::values::{NewColumn, NewStatistics};
 
 /// A catalogue in tables that it owns ([`crate::OwnedTables`]) or that are lent to it ([`Tables`]).
@@ -193,6 +194,12 @@ impl<T: Lend> Catalog<T> {
             true => Ok(File::Data(DataFileRecord::read(&words))),
             false => Ok(File::Delete(DeleteFileRecord::read(&words))),
         }
+    }
+
+    /// What the tables are not sound for: the first line of 'Sound tables' that doesn't hold. Of tables that calls are refused for with
+    /// [`crate::outcome::NOT_SOUND`] there is one, and of others none.
+    pub fn first_unsound(&self) -> Option<Line> {
+        Line::of(raw::first_unsound(self.lent.view(), self.counts))
     }
 
     // How calls are made

@@ -7,7 +7,10 @@
 #![deny(unsafe_code)]
 
 mod catalog;
-/// Numbers, limits, names of sizes: the source that the proofs are about.
+/// The lines of 'Sound tables' by number: the source that the proofs are about.
+#[path = "../../../crates/soundness/src/line.rt"]
+pub mod line;
+/// Numbers, limits, names of sizes: the same.
 #[path = "../../../crates/layout/src/number.rt"]
 pub mod number;
 /// Counts, outcomes, the refusals' numbers: the same.
@@ -19,6 +22,7 @@ pub mod raw;
 pub mod record;
 mod refusal;
 mod tables;
+mod unsound;
 mod values;
 
 pub use catalog::{Catalog, File, Handed, Listed};
@@ -27,4 +31,5 @@ pub use outcome::{Counts, Outcome};
 pub use record::{DataFileRecord, DeleteFileRecord, SnapshotRecord, Uuid};
 pub use refusal::{sentence, Refusal};
 pub use tables::{Lend, OwnedTables, Tables, TablesView};
+pub use unsound::Line;
 pub use values::{ColumnType, NewColumn, NewStatistics};

@@ -74,6 +74,38 @@ macro_rules! reads {
     };
 }
 
+/// Calls that write nothing and have no area: they give a number.
+macro_rules! judges {
+    ($($(#[$doc:meta])* $name:ident() = $symbol:ident();)*) => {
+        extern "C" {
+            $(fn $symbol(
+                snapshots: *const u64, snapshots_length: usize, schemas: *const u64, schemas_length: usize, schema_names: *const u8, schema_names_length: usize,
+                tables: *const u64, tables_length: usize, table_names: *const u8, table_names_length: usize,
+                columns: *const u64, columns_length: usize, column_names: *const u8, column_names_length: usize,
+                data_files: *const u64, data_files_length: usize, delete_files: *const u64, delete_files_length: usize,
+                positions: *const u64, positions_length: usize, statistics: *const u64, statistics_length: usize,
+                scheduled: *const u64, scheduled_length: usize, counts: Counts,
+            ) -> u64;)*
+        }
+        $($(#[$doc])*
+        pub fn $name(lent: TablesView<'_>, counts: Counts) -> u64 {
+            // Right, since each pointer and length are those of a slice, which is there for the whole call; the call asks for nothing more (it has no
+            // `requires`), writes nothing, keeps no pointer, ends, and does not unwind.
+            unsafe {
+                $symbol(
+                    lent.snapshots.as_ptr(), lent.snapshots.len(), lent.schemas.as_ptr(), lent.schemas.len(),
+                    lent.schema_names.as_ptr(), lent.schema_names.len(), lent.tables.as_ptr(), lent.tables.len(),
+                    lent.table_names.as_ptr(), lent.table_names.len(), lent.columns.as_ptr(), lent.columns.len(),
+                    lent.column_names.as_ptr(), lent.column_names.len(), lent.data_files.as_ptr(), lent.data_files.len(),
+                    lent.delete_files.as_ptr(), lent.delete_files.len(), lent.positions.as_ptr(), lent.positions.len(),
+                    lent.statistics.as_ptr(), lent.statistics.len(), lent.scheduled.as_ptr(), lent.scheduled.len(),
+                    counts,
+                )
+            }
+        })*
+    };
+}
+
 changes! {
     fresh(time: u64) = catalog_fresh(time => u64);
     create_schema(time: u64, name: &[u8]) = catalog_create_schema(time => u64, name.as_ptr() => *const u8, name.len() => usize);
@@ -108,4 +140,9 @@ reads! {
     snapshot_by_time(t: u64) = catalog_snapshot_by_time(t => u64);
     /// The answer is the eight words of a data file's or of a delete file's record.
     copy_file(id: FileId) = catalog_copy_file(id => FileId);
+}
+
+judges! {
+    /// The first line of 'Sound tables' that doesn't hold, by the numbers of [`crate::line`].
+    first_unsound() = catalog_first_unsound();
 }

@@ -1,5 +1,6 @@
 //! Document 01's diary session through the safe calls: its marked cases and the others, on tables that are owned and on tables that are lent.
 
+use gukoremo::line::{DELETES_LINE, FIELDS_LINE, SNAPSHOTS_LINE, SOUND};
 use gukoremo::outcome::{
     ALREADY_DELETED, BAD_COLUMNS, BAD_NAME, BAD_RECORD_COUNT, EXPIRES_LATEST, NOT_LIVE, NOT_SOUND, NO_ROOM, NO_SNAPSHOT_BY_THEN, SCHEMA_NOT_EMPTY,
 };
@@ -45,6 +46,11 @@ fn play<T: Lend>(tables: T) -> Result<Catalog<T>, Refusal> {
 
 fn rows<T: Lend>(catalog: &Catalog<T>, snapshot: u64) -> Vec<u64> {
     catalog.list_rows(SnapshotId(snapshot), DIARY).unwrap().iter().map(|row| row.0).collect()
+}
+
+/// The line of 'Sound tables' that tables break first.
+fn first_line(tables: &OwnedTables, counts: Counts) -> u64 {
+    Catalog::resume(tables.clone(), counts).first_unsound().map_or(SOUND, |line| line.number)
 }
 
 fn number<V>(result: Result<V, Refusal>) -> u64 {
@@ -130,10 +136,17 @@ fn lent_tables_and_tables_that_were_kept() {
     let counts = play(kept.lend()).unwrap().counts();
     let catalog = Catalog::resume(kept.clone(), counts);
     assert_eq!(rows(&catalog, 5), [2, 3, 4]);
+    assert_eq!(catalog.first_unsound(), None);
     // whatever the tables and the counts are
     kept.snapshots[0] = 77;
     assert_eq!(number(Catalog::resume(kept.lend(), counts).list_schemas(SnapshotId(5))), NOT_SOUND);
+    assert_eq!(first_line(&kept, counts), SNAPSHOTS_LINE);
     let most = Counts { scheduled: usize::MAX, ..counts };
     assert_eq!(number(Catalog::resume(kept.lend(), most).cleanup(u64::MAX)), NOT_SOUND);
+    assert_eq!(first_line(&kept, most), FIELDS_LINE);
+    let said = Catalog::resume(kept.lend(), counts).first_unsound().map(|line| line.to_string()).unwrap_or_default();
+    assert!(said.starts_with("line 2 of 'Sound tables' fails first: \"at least one snapshot; "), "{said}");
+    kept.snapshots[0] = 0;
+    assert_eq!(first_line(&kept, Counts { positions: 2, ..counts }), DELETES_LINE);
     assert_eq!(number(Catalog::fresh(OwnedTables::default(), 100).map(|_| ())), NO_ROOM);
 }

@@ -10,13 +10,14 @@ pub fn load(words: &Words, counts: &Counts) -> Result<Catalog, Unsound> {
     snapshots::ascend(&draft)?;
     lives::are_retained(&draft)?;
     ids::ascend(&draft)?;
-    let (mut catalog, deletes) = draft.into_maps();
+    let (mut catalog, deletes, values) = draft.into_maps();
     ids::are_given_out_once(&catalog)?;
     lives::nest(&catalog)?;
     names::differ(&catalog)?;
     positions::deal_out(&mut catalog, &deletes)?;
     positions::grow(&catalog)?;
     rows::ascend(&catalog)?;
+    statistics::read(&mut catalog, values)?;
     statistics::cover(&catalog)?;
     statistics::column_counts(&catalog)?;
     Ok(catalog)

@@ -143,38 +143,31 @@ fn rule_1_limits() {
 
 #[test]
 fn rule_1_fields() {
-    for field in [0, 2, 3, 4, 6] {
+    for field in [0, 2, 3, 4] {
         word_breaks(1, Run::Snapshots, 12, field, PAST);
     }
-    for field in [0, 1, 2] {
-        word_breaks(1, Run::Schemas, 2, field, PAST);
-    }
-    for field in [0, 1, 2, 3, 4] {
+    word_breaks(1, Run::Schemas, 2, 0, PAST);
+    for field in [0, 3, 4] {
         word_breaks(1, Run::Tables, 1, field, PAST);
     }
-    for field in [0, 1, 2, 3, 4, 5, 6] {
+    for field in [0, 1, 4, 5, 6] {
         word_breaks(1, Run::Columns, 2, field, PAST);
     }
     for (field, word) in [(5, 0), (5, 9), (6, 2)] {
         word_breaks(1, Run::Columns, 2, field, word);
     }
-    for field in [0, 1, 2, 3, 4, 5] {
+    for field in [0, 1, 4, 5] {
         word_breaks(1, Run::DataFiles, 2, field, PAST);
     }
     word_breaks(1, Run::DataFiles, 2, 4, 0);
     word_breaks(1, Run::DataFiles, 2, 4, 1_048_577);
-    for field in [0, 1, 2, 3, 4] {
+    for field in [0, 1, 4] {
         word_breaks(1, Run::DeleteFiles, 2, field, PAST);
     }
-    for field in [0, 1, 3, 4] {
+    for field in [0, 1] {
         word_breaks(1, Run::Statistics, 4, field, PAST);
     }
-    // "min and max, 0 where the flag is 0"
-    word_breaks(1, Run::Statistics, 4, 5, 1);
-    word_breaks(1, Run::Statistics, 4, 6, 1);
     word_breaks(1, Run::Scheduled, 0, 0, PAST);
-    // "ABSENT [...] elsewhere that word is a plain value"
-    word_breaks(1, Run::Tables, 1, 1, ABSENT);
 }
 
 #[test]
@@ -200,6 +193,9 @@ fn rule_2() {
     for kind in [0, 5, 8, ABSENT] {
         word_breaks(2, Run::Snapshots, 3, 5, kind);
     }
+    // The next catalog id is 5.
+    word_breaks(2, Run::Snapshots, 8, 6, 5);
+    word_breaks(2, Run::Snapshots, 12, 6, PAST);
 }
 
 // "each begin and each end that isn't ABSENT is at most the latest snapshot id; begin < end; every
@@ -214,6 +210,17 @@ fn rule_3() {
     word_breaks(3, Run::DataFiles, 2, 3, 7);
     word_breaks(3, Run::DeleteFiles, 0, 3, 5);
     word_breaks(3, Run::DeleteFiles, 2, 2, NUMBER_LIMIT);
+    for (table, record, begin) in [(Run::Schemas, 2, 1), (Run::Tables, 1, 1), (Run::Columns, 2, 2)]
+    {
+        word_breaks(3, table, record, begin, PAST);
+        word_breaks(3, table, record, begin + 1, PAST);
+    }
+    for table in [Run::DataFiles, Run::DeleteFiles] {
+        word_breaks(3, table, 2, 2, PAST);
+        word_breaks(3, table, 2, 3, PAST);
+    }
+    // "ABSENT [...] elsewhere that word is a plain value"
+    word_breaks(3, Run::Tables, 1, 1, ABSENT);
     // Live at 12 alone, which is expired.
     for (table, record) in [(Run::Schemas, 2), (Run::Columns, 1), (Run::DataFiles, 1)] {
         breaks(3, table, Some(record), |world| {
@@ -251,7 +258,6 @@ fn rule_5() {
     word_breaks(5, Run::DataFiles, 2, 0, 7);
     word_breaks(5, Run::DeleteFiles, 2, 0, 7);
     word_breaks(5, Run::Scheduled, 0, 0, 7);
-    word_breaks(5, Run::Snapshots, 8, 6, 5);
     // File ids: data and delete, delete and scheduled, data and scheduled.
     word_breaks(5, Run::DeleteFiles, 1, 0, 4);
     word_breaks(5, Run::Scheduled, 0, 0, 6);
@@ -415,6 +421,10 @@ fn rule_10() {
     word_breaks(10, Run::Statistics, 0, 2, 1);
     word_breaks(10, Run::Statistics, 3, 2, 2);
     word_breaks(10, Run::Statistics, 4, 3, 1);
+    // "has_min, has_max (0 or 1)"; "0 where the flag is 0"
+    for (field, word) in [(3, PAST), (4, PAST), (3, 2), (5, 1), (6, 1)] {
+        word_breaks(10, Run::Statistics, 4, field, word);
+    }
     // Min above max; a value outside the type's range.
     word_breaks(10, Run::Statistics, 1, 5, 15);
     word_breaks(10, Run::Statistics, 1, 6, i64::MIN as u64);

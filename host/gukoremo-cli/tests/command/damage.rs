@@ -62,7 +62,7 @@ fn damaged_files_are_said_to_be() {
 }
 
 /// Tables that were damaged before their file was written: the checksum is right, and what they hold is anything. Each command answers or refuses; what
-/// `check` calls sound is read, and what it does not has a rule that fails.
+/// `check` calls sound is read, and what it does not has a line that fails.
 #[test]
 fn any_tables_are_answered() {
     let folder = Folder::new("tables");

@@ -1,9 +1,11 @@
 //! The used records in the order in which they lie, before anything is known of their ids.
 
+use std::collections::BTreeMap;
+
 use crate::catalog::Catalog;
 use crate::records::{
     CatalogId, Column, ColumnId, DataFile, DeleteFile, FileId, Scheduled, Schema, Snapshot,
-    SnapshotId, Statistics, Table,
+    SnapshotId, Table,
 };
 
 pub struct Draft {
@@ -14,7 +16,7 @@ pub struct Draft {
     pub data_files: Vec<(FileId, DataFile)>,
     pub delete_files: Vec<(FileId, DeleteFile)>,
     pub deletes: Deletes,
-    pub statistics: Vec<((FileId, ColumnId), Statistics)>,
+    pub statistics: Values,
     pub scheduled: Vec<Scheduled>,
 }
 
@@ -24,9 +26,13 @@ pub struct Deletes {
     pub positions: Vec<u64>,
 }
 
+/// The words of each statistics record after its ids, not yet read.
+pub type Values = Vec<((FileId, ColumnId), [u64; 5])>;
+
 impl Draft {
-    /// Maps lose no record, since ids ascend strictly (the fourth line); positions come later.
-    pub fn into_maps(self) -> (Catalog, Deletes) {
+    /// Maps lose no record, since ids ascend strictly (the fourth line); positions and statistics
+    /// come later.
+    pub fn into_maps(self) -> (Catalog, Deletes, Values) {
         let catalog = Catalog {
             snapshots: self.snapshots.into_iter().collect(),
             schemas: self.schemas.into_iter().collect(),
@@ -34,9 +40,9 @@ impl Draft {
             columns: self.columns.into_iter().collect(),
             data_files: self.data_files.into_iter().collect(),
             delete_files: self.delete_files.into_iter().collect(),
-            statistics: self.statistics.into_iter().collect(),
+            statistics: BTreeMap::new(),
             scheduled: self.scheduled,
         };
-        (catalog, self.deletes)
+        (catalog, self.deletes, self.statistics)
     }
 }

@@ -25,14 +25,11 @@ fn keys_ascend<Key: Ord, Record>(run: Run, records: &[(Key, Record)]) -> Result<
 }
 
 /// 5: "schema, table and file ids are below the latest snapshot's next ids; no file id or UUID
-/// occurs twice over data files, delete files and scheduled". A change object is a schema's or
-/// table's id (R7), a scheduled file's id a file id (R8).
+/// occurs twice over data files, delete files and scheduled". A scheduled file's id is a file id
+/// (R8).
 pub fn are_given_out_once(catalog: &Catalog) -> Result<(), Unsound> {
     let (_, latest) = catalog.latest();
     let (next_catalog_id, next_file_id) = (latest.next_catalog_id, latest.next_file_id);
-    for (place, snapshot) in catalog.snapshots.values().enumerate() {
-        want(snapshot.change_object < next_catalog_id, 5, Run::Snapshots, place)?;
-    }
     for (place, id) in catalog.schemas.keys().enumerate() {
         want(*id < next_catalog_id, 5, Run::Schemas, place)?;
     }

@@ -1,5 +1,6 @@
 //! 1: "used counts fit the lent lengths and the limits; every field is in its range; padding is
-//! zero"
+//! zero". Change objects, begins and ends, and the values of statistics have lines of their own
+//! (R44).
 
 use std::collections::BTreeSet;
 
@@ -11,7 +12,7 @@ use crate::lent::{
 use crate::names::Name;
 use crate::records::{
     flag, CatalogId, Column, ColumnId, DataFile, DeleteFile, FileId, Life, Scheduled, Schema,
-    Snapshot, SnapshotId, Statistics, Table,
+    Snapshot, SnapshotId, Table,
 };
 use crate::sound::draft::{Deletes, Draft};
 use crate::sound::Unsound;
@@ -75,9 +76,8 @@ fn number(word: u64) -> Option<u64> {
 }
 
 /// "in the tables only an end reads as ABSENT"
-fn life(begin: u64, end: u64) -> Option<Life> {
-    let end = if end == ABSENT { None } else { Some(number(end)?) };
-    Some(Life { begin: number(begin)?, end })
+fn life(begin: u64, end: u64) -> Life {
+    Life { begin, end: (end != ABSENT).then_some(end) }
 }
 
 fn snapshot(words: [u64; SNAPSHOT_SIZE]) -> Option<(SnapshotId, Snapshot)> {
@@ -89,21 +89,21 @@ fn snapshot(words: [u64; SNAPSHOT_SIZE]) -> Option<(SnapshotId, Snapshot)> {
         next_catalog_id: number(next_catalog_id)?,
         next_file_id: number(next_file_id)?,
         change_kind,
-        change_object: number(change_object)?,
+        change_object,
     };
     Some((number(id)?, snapshot))
 }
 
 fn schema((words, name): ([u64; SCHEMA_SIZE], NamePlace)) -> Option<(CatalogId, Schema)> {
     let [id, begin, end] = words;
-    let schema = Schema { life: life(begin, end)?, name: Name::from_place(&name)? };
+    let schema = Schema { life: life(begin, end), name: Name::from_place(&name)? };
     Some((number(id)?, schema))
 }
 
 fn table((words, name): ([u64; TABLE_SIZE], NamePlace)) -> Option<(CatalogId, Table)> {
     let [id, begin, end, schema, next_row_id] = words;
     let table = Table {
-        life: life(begin, end)?,
+        life: life(begin, end),
         schema: number(schema)?,
         next_row_id: number(next_row_id)?,
         name: Name::from_place(&name)?,
@@ -116,7 +116,7 @@ fn column(
 ) -> Option<((CatalogId, ColumnId), Column)> {
     let [id, table, begin, end, order, kind, nulls_allowed] = words;
     let column = Column {
-        life: life(begin, end)?,
+        life: life(begin, end),
         order: number(order)?,
         kind: Type::from_code(kind)?,
         nulls_allowed: flag(nulls_allowed)?,
@@ -130,7 +130,7 @@ fn data_file(words: [u64; DATA_FILE_SIZE]) -> Option<(FileId, DataFile)> {
     let [id, table, begin, end, record_count, row_id_start, high, low] = words;
     let file = DataFile {
         table: number(table)?,
-        life: life(begin, end)?,
+        life: life(begin, end),
         record_count: Some(record_count).filter(|n| (1..=RECORD_COUNT_LIMIT).contains(n))?,
         row_id_start: number(row_id_start)?,
         uuid: (high, low),
@@ -142,7 +142,7 @@ fn delete_file(words: [u64; DELETE_FILE_SIZE]) -> Option<(FileId, DeleteFile)> {
     let [id, table, begin, end, data_file, _, high, low] = words;
     let file = DeleteFile {
         table: number(table)?,
-        life: life(begin, end)?,
+        life: life(begin, end),
         data_file: number(data_file)?,
         positions: BTreeSet::new(),
         uuid: (high, low),
@@ -155,10 +155,9 @@ fn delete_count(words: [u64; DELETE_FILE_SIZE]) -> u64 {
     delete_count
 }
 
-fn statistics(words: [u64; STATISTICS_SIZE]) -> Option<((FileId, ColumnId), Statistics)> {
-    let [file, column, null_count, has_min, has_max, min, max] = words;
-    let statistics = Statistics::from_words([null_count, has_min, has_max, min, max])?;
-    Some(((number(file)?, number(column)?), statistics))
+fn statistics(words: [u64; STATISTICS_SIZE]) -> Option<((FileId, ColumnId), [u64; 5])> {
+    let [file, column, values @ ..] = words;
+    Some(((number(file)?, number(column)?), values))
 }
 
 fn scheduled(words: [u64; SCHEDULED_SIZE]) -> Option<Scheduled> {

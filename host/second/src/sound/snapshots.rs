@@ -1,5 +1,5 @@
 //! 2: "at least one snapshot; snapshot ids ascend strictly; times, schema versions and next ids
-//! never fall; change kinds are those below"
+//! never fall; change kinds are those below". A change object is a schema's or table's id (R7).
 
 use crate::commits::CHANGE_KINDS;
 use crate::lent::Run;
@@ -16,9 +16,10 @@ pub fn ascend(draft: &Draft) -> Result<(), Unsound> {
     for (place, pair) in draft.snapshots.windows(2).enumerate() {
         want(follows(&pair[0], &pair[1]), RULE, Run::Snapshots, place + 1)?;
     }
+    let next_catalog_id = draft.snapshots.last().map_or(0, |(_, latest)| latest.next_catalog_id);
     for (place, (_, snapshot)) in draft.snapshots.iter().enumerate() {
         let known = CHANGE_KINDS.contains(&snapshot.change_kind);
-        want(known, RULE, Run::Snapshots, place)?;
+        want(known && snapshot.change_object < next_catalog_id, RULE, Run::Snapshots, place)?;
     }
     Ok(())
 }

@@ -2,8 +2,18 @@
 
 use crate::catalog::Catalog;
 use crate::lent::{Run, COLUMN_LIMIT};
-use crate::records::{ColumnId, DataFile};
+use crate::records::{ColumnId, DataFile, Statistics};
+use crate::sound::draft::Values;
 use crate::sound::{want, Unsound};
+
+/// The values of statistics: flags are "0 or 1", bounds "0 where the flag is 0".
+pub fn read(catalog: &mut Catalog, values: Values) -> Result<(), Unsound> {
+    for (place, (key, words)) in values.into_iter().enumerate() {
+        let read = Statistics::from_words(words).ok_or(Unsound::at(10, Run::Statistics, place))?;
+        catalog.statistics.insert(key, read);
+    }
+    Ok(())
+}
 
 /// 10: "each data file has one statistics record for each column live at its begin, and no other."
 /// The rules of a record's values are `Statistics::suit`.
