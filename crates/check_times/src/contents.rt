@@ -17,7 +17,7 @@ pub fn content(k: u64) -> Content {
         4 => Content::new(Ids::Dense, Uuids::Random, Names::Random(NAMES)).wide(),
         5 => Content::sample().falling(),
         6 => Content::new(Ids::OneHash, Uuids::OneHash, Names::Letters),
-        7 => Content::new(Ids::Dense, Uuids::Counting, Names::Colliding),
+        7 => Content::new(Ids::Dense, Uuids::Counting, Names::OneHash),
         8 => Content::new(Ids::Dense, Uuids::Counting, Names::One).brief(),
         _ => Content::new(Ids::OneHash, Uuids::OneHash, Names::One)
             .brief()

@@ -12,8 +12,8 @@ pub enum Names {
     Random(u64),
     // the longest, one for all records but the first,
     One,
-    // the longest, each another, and of one hash: 31 * 'A' + 'a' is 31 * 'B' + 'B'.
-    Colliding,
+    // the longest, each another, and of one hash.
+    OneHash,
 }
 
 fn letter(i: u64, each: u64) -> u8
@@ -44,16 +44,26 @@ fn of_random(seed: u64, i: u64, k: u64) -> u8
     r + 87
 }
 
-fn of_pairs(i: u64, k: u64) -> u8
+const WORD_BYTES: u64 = 8;
+
+// Eight letters each (the fourth is "calendar"), which leave the same remainder by both moduli of the hash: names put together from them have one hash.
+const WORDS_OF_ONE_HASH: [u64; 8] = [
+    7089075271762737267,
+    7091325972198488179,
+    7095828467751941748,
+    7161124065395368306,
+    7161124099738331498,
+    7161124134081294690,
+    7161132891536908650,
+    7161132925879871842,
+];
+
+fn of_one_hash(i: u64, k: u64) -> u8
     requires { ⌜ k < nameSize ⌝ }
 {
-    if (i >> (k / 2)) % 2 == 1 {
-        return 66;
-    }
-    if k % 2 == 0 {
-        return 65;
-    }
-    97
+    let which = ((i >> (k / WORD_BYTES * 3)) % 8) as usize;
+    let word = WORDS_OF_ONE_HASH[which];
+    ((word >> ((7 - k % WORD_BYTES) * 8)) % 256) as u8
 }
 
 // The byte k of the name of the record i.
@@ -64,7 +74,7 @@ fn name_byte(how: Names, i: u64, k: u64) -> u8
         Names::Letters => of_letters(i, k),
         Names::Random(seed) => of_random(seed, i, k),
         Names::One => { if i == 0 { 98 } else { 97 } }
-        Names::Colliding => of_pairs(i, k),
+        Names::OneHash => of_one_hash(i, k),
     }
 }
 
