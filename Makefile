@@ -4,7 +4,7 @@
 test:
 	@sh tests/run
 
-# Every must-fail edit, those that the gate has no time for too: some forty minutes.
+# Every must-fail edit, those that the gate has no time for too.
 edits:
 	@sh tests/edits
 
