@@ -18,15 +18,15 @@ library:
 
 # So many random calls and damaged tables, or more: make fuzz N=1000000, from the clock's seed or from SEED=..; a find is printed as the smallest list that shows it.
 fuzz: library
-	@cargo build --release --offline --quiet --target-dir target/host --manifest-path host/differ/Cargo.toml
+	@sh host/packages && cargo build --release --offline --quiet --target-dir target/host --manifest-path host/differ/Cargo.toml
 	@target/host/release/differ fuzz $(or $(N),100000) $(SEED)
 
 # The table of docs/BENCHMARKS.md, measured here.
 bench: library
-	@cargo build --release --offline --quiet --target-dir target/host --manifest-path host/differ/Cargo.toml
+	@sh host/packages && cargo build --release --offline --quiet --target-dir target/host --manifest-path host/differ/Cargo.toml
 	@target/host/release/differ bench
 
 # The table of docs/CHECK-TIMES.md, 'What a call costs beyond the check', measured here.
 costs: library
-	@cargo build --release --offline --quiet --target-dir target/host --manifest-path host/differ/Cargo.toml
+	@sh host/packages && cargo build --release --offline --quiet --target-dir target/host --manifest-path host/differ/Cargo.toml
 	@target/host/release/differ costs

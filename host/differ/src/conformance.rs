@@ -1,17 +1,15 @@
 //! The lists of conformance/: written where both implementations agree, and played again against both.
 
 use crate::play::{self, Pair, Played};
-use crate::random::{self, Tally};
 use crate::runs;
 use crate::script::{self, Line};
-use crate::{from_cases, unmarked};
+use crate::{from_cases, moves, player, unmarked};
 use cases::lists::Folder;
-use second::dice::Dice;
 use std::fs;
 use std::path::Path;
 
 /// Random lists: the seed of the first, how many, and how many calls each has.
-const RANDOM: (u64, u64, u64) = (7_000, 12, 40);
+const RANDOM: (u64, u64, usize) = (7_000, 12, 40);
 
 /// A list with its answer area before each call, and what came of it after it. An error is a difference.
 fn with_answers(lines: &[Line]) -> Result<String, String> {
@@ -57,7 +55,7 @@ pub fn write(cases: &str, folder: &str) -> Result<String, String> {
     put("diary", "the diary session, with the cases of it that are marked and those that are not", &unmarked::lines())?;
     let (first, count, calls) = RANDOM;
     for seed in first..first + count {
-        let lines = random::play_calls(Dice(seed), calls, &mut Tally::default()).map_err(|find| find.how)?;
+        let (_, lines) = player::play_alone(&moves::list_of(seed, calls))?;
         put(&format!("random-{seed}"), &format!("a random list of {calls} calls with readings between them"), &lines)?;
     }
     Ok(format!("conformance: {written} lists written to {folder}"))

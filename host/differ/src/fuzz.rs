@@ -1,16 +1,25 @@
 //! So many random calls and damaged tables, from a seed: each list has one of its own, the next number, so that a find can be repeated by itself.
 
 use crate::limits;
-use crate::random::{self, Find, Tally};
+use crate::moves;
+use crate::player::{self, Questions};
 use crate::script;
 use crate::shapes::Shape;
-use crate::shrink;
-use std::fmt::Write as _;
+use crate::tally::Tally;
+use proptest::strategy::Strategy;
+use proptest::test_runner::{TestCaseError, TestError};
+use std::cell::{Cell, RefCell};
 use std::io::{IsTerminal, Write as _};
+use std::panic::{catch_unwind, AssertUnwindSafe};
 use std::time::{Duration, Instant};
 
 /// How long a find is made smaller.
 const SHRINKING: Duration = Duration::from_secs(30);
+
+/// Groups of moves in a list; and in one of so many, which is a long one.
+const GROUPS: usize = 16;
+const GROUPS_OF_LONG: usize = 110;
+const LONG: u64 = 16;
 
 /// Plays lists until there were so many calls and so many damaged tables. Without a seed it is the clock's.
 pub fn run(count: &str, seed: Option<&str>) -> Result<String, String> {
@@ -19,19 +28,16 @@ pub fn run(count: &str, seed: Option<&str>) -> Result<String, String> {
         Some(seed) => number(seed)?,
         None => std::time::UNIX_EPOCH.elapsed().map_or(0, |time| time.as_nanos() as u64),
     };
-    let mut tally = Tally::default();
-    play(count, seed, &mut tally)
+    play(count, seed).map(|(said, _)| said)
 }
 
 /// The same from a seed that is given, and then tables at the limits. Every number that a call can give has to be met.
 pub fn bounded(count: &str, seed: &str) -> Result<String, String> {
-    let (count, seed) = (number(count)?, number(seed)?);
-    let mut tally = Tally::default();
-    let said = play(count, seed, &mut tally)?;
+    let (said, mut tally) = play(number(count)?, number(seed)?)?;
     for (shape, free) in [(Shape::FileEach, 0), (Shape::FileEach, 1), (Shape::HalfEnded, 0)] {
         limits::play(shape, free, &mut tally)?;
     }
-    match unmet(&tally) {
+    match tally.unmet() {
         Some((name, number)) => Err(format!("{said}\nfuzz: no {name} gave {number}")),
         None => Ok(said),
     }
@@ -41,85 +47,59 @@ fn number(text: &str) -> Result<u64, String> {
     text.replace(['_', ','], "").parse().map_err(|_| format!("no number: {text}"))
 }
 
-fn play(count: u64, seed: u64, tally: &mut Tally) -> Result<String, String> {
+fn play(count: u64, seed: u64) -> Result<(String, Tally), String> {
     let since = Instant::now();
     let mut shown = Instant::now();
+    let mut tally = Tally::default();
     let mut at = seed;
-    while tally.calls.min(tally.damaged) < count {
-        random::play(at, tally).map_err(|find| report(&find, at))?;
+    while tally.done() < count {
+        tally = play_list(at, tally)?;
         at = at.wrapping_add(1);
         if shown.elapsed() > Duration::from_millis(300) && std::io::stderr().is_terminal() {
-            progress(tally, count);
+            progress(tally.done().min(count), count);
             shown = Instant::now();
         }
     }
     let seconds = since.elapsed().as_secs_f64();
-    Ok(format!("{}\nfuzz: seed {seed}, {seconds:.1} s, {}, no difference", met(tally), sums(tally)))
+    Ok((format!("{}\nfuzz: seed {seed}, {seconds:.1} s, {}, no difference", tally.met(), tally.sums()), tally))
 }
 
-/// Each call with the numbers that it can give.
-const NUMBERS: [(&str, &[u64]); 18] = [
-    ("fresh", &[0, 2]),
-    ("create_schema", &[0, 1, 2, 4, 8, 9, 10]),
-    ("drop_schema", &[0, 1, 2, 4, 6, 8, 11]),
-    ("create_table", &[0, 1, 2, 4, 6, 8, 9, 10, 12]),
-    ("drop_table", &[0, 1, 2, 4, 6, 8]),
-    ("insert", &[0, 1, 2, 4, 6, 8, 13, 14, 15]),
-    ("delete", &[0, 1, 2, 4, 6, 8, 14, 16, 17]),
-    ("expire", &[0, 1, 2, 5, 18, 19]),
-    ("cleanup", &[0, 1, 3]),
-    ("list_schemas", &[0, 1, 3, 5]),
-    ("list_tables", &[0, 1, 3, 5, 6]),
-    ("list_columns", &[0, 1, 3, 5, 6]),
-    ("table_by_name", &[0, 1, 3, 5, 6]),
-    ("list_files", &[0, 1, 3, 5, 6]),
-    ("list_filtered_files", &[0, 1, 3, 5, 6]),
-    ("list_rows", &[0, 1, 3, 5, 6]),
-    ("snapshot_by_time", &[0, 1, 3, 7]),
-    ("copy_file", &[0, 1, 3, 6]),
-];
-
-/// A number that a call can give and did not.
-fn unmet(tally: &Tally) -> Option<(&'static str, u64)> {
-    let pairs = NUMBERS.into_iter().flat_map(|(name, numbers)| numbers.iter().map(move |number| (name, *number)));
-    pairs.into_iter().find(|pair| !tally.met.contains_key(pair))
-}
-
-fn sums(tally: &Tally) -> String {
-    let Tally { lists, calls, readings, damaged, still_sound, questions, longest, .. } = tally;
-    format!(
-        "{lists} lists of up to {longest} calls: {calls} calls, {readings} readings, {damaged} damaged tables ({still_sound} still sound), \
-         {questions} questions of demand 3"
-    )
-}
-
-/// How often each call gave each number.
-pub fn met(tally: &Tally) -> String {
-    let mut text = String::new();
-    let mut last = "";
-    for ((name, number), count) in &tally.met {
-        if last != *name {
-            let _ = write!(text, "{}{name}:", if last.is_empty() { "" } else { "\n" });
-        }
-        let _ = write!(text, " {number}×{count}");
-        last = name;
-    }
-    text
-}
-
-fn progress(tally: &Tally, count: u64) {
-    let done = tally.calls.min(tally.damaged).min(count);
+fn progress(done: u64, count: u64) {
     let bar = (done * 40 / count.max(1)) as usize;
     eprint!("\r[{}{}] {done} of {count}", "#".repeat(bar), ".".repeat(40 - bar));
     let _ = std::io::stderr().flush();
 }
 
-/// The smallest list, as a script, after what differs.
-fn report(find: &Find, seed: u64) -> String {
-    let (lines, how) = shrink::shrink(find, SHRINKING);
-    let mut text =
-        format!("# a difference: {how}\n# seed {seed}; again: differ fuzz 1 {seed}; {} lines, {} when found\n", lines.len(), find.lines.len());
-    text += &script::text(&lines);
-    text += &format!("differ: {how}");
-    text
+/// Plays the list of a seed, and adds to what was played. An error is the smallest list that proptest comes to, as a script, after what differs.
+fn play_list(seed: u64, tally: Tally) -> Result<Tally, String> {
+    let (tally, lines) = (RefCell::new(tally), RefCell::new(Vec::new()));
+    let questions = Cell::new(Questions::Chosen);
+    let when_found = Cell::new(None);
+    let test = |list: moves::List| {
+        let played = player::play(&list, questions.get(), &mut lines.borrow_mut(), &mut tally.borrow_mut());
+        let difference = match played {
+            Ok(_) => return Ok(()),
+            Err(difference) => difference,
+        };
+        if difference.of_demand_3 {
+            questions.set(Questions::All);
+        }
+        when_found.set(when_found.get().or(Some(lines.borrow().len())));
+        Err(TestCaseError::fail(difference.how))
+    };
+    let mut runner = moves::runner(seed, SHRINKING);
+    let groups = if seed.is_multiple_of(LONG) { GROUPS_OF_LONG } else { GROUPS };
+    let tree = moves::list_up_to(groups).new_tree(&mut runner).map_err(|reason| format!("no list: {reason}"))?;
+    match runner.run_one(tree, test) {
+        Ok(_) => Ok(tally.into_inner()),
+        Err(TestError::Abort(reason)) => Err(format!("no list: {reason}")),
+        Err(TestError::Fail(reason, smallest)) => {
+            // Once more for its lines, up to a panic where it is one that differs.
+            let _ = catch_unwind(AssertUnwindSafe(|| test(smallest)));
+            let lines = lines.borrow();
+            let found = when_found.get().unwrap_or(lines.len());
+            let head = format!("# a difference: {reason}\n# seed {seed}; again: differ fuzz 1 {seed}; {} lines, {found} when found\n", lines.len());
+            Err(format!("{head}{}differ: {reason}", script::text(&lines)))
+        }
+    }
 }

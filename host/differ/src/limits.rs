@@ -1,10 +1,10 @@
 //! Tables with all but a few of the records that are allowed, on runs that lend more. Calls of every sort on them, compared.
 
 use crate::play::{self, Pair};
-use crate::random::Tally;
 use crate::script::{self, Line};
 use crate::shapes::{self, Shape};
-use crate::step::{self, Step};
+use crate::step::Step;
+use crate::tally::Tally;
 use second::diary::name_places;
 use second::lent::{COLUMN_LIMIT, RECORD_LIMIT};
 use second::{load, Call, Catalog, Reading, ABSENT};
@@ -43,7 +43,7 @@ fn named(catalog: &Catalog) -> Option<Named> {
         snapshot,
         busiest: live().max_by_key(|table| files.get(table).copied().unwrap_or(0))?,
         widest: live().max_by_key(|table| catalog.columns_of(*table).count())?,
-        last: live().last()?,
+        last: live().next_back()?,
         empty: schemas.rfind(|schema| catalog.tables.values().all(|table| table.schema != *schema))?,
         data_file: *data_file,
         deleted: catalog.delete_files[&delete_file].positions.iter().copied().collect(),
@@ -136,8 +136,7 @@ pub fn play(shape: Shape, free: usize, tally: &mut Tally) -> Result<(), String> 
             let lines = [Line::Area { length, fill: 1 }, Line::Step(what.clone())];
             let number = play_lines(&mut full.clone(), &lines)
                 .map_err(|how| format!("# on tables '{}' of {used} records of each sort\n{}differ: {how}", shape.says(), script::text(&lines)))?;
-            *tally.met.entry((step::name(&what), number)).or_default() += 1;
-            *(if is_call { &mut tally.calls } else { &mut tally.readings }) += 1;
+            tally.count(&what, number);
         }
     }
     Ok(())

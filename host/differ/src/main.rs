@@ -1,27 +1,26 @@
 //! The compiled calls against the second implementation, against written lists, and against the published queries.
 #![forbid(unsafe_code)]
 
-mod arguments;
 mod bench;
 mod catalogue;
+mod choices;
 mod conformance;
 mod costs;
-mod damage;
 mod from_cases;
 mod fuzz;
 mod limits;
+mod moves;
 mod play;
+mod player;
 mod proved;
 mod published;
-mod random;
-mod renumber;
 mod runs;
 mod script;
 mod shapes;
-mod shrink;
 mod sqlite;
 mod stack;
 mod step;
+mod tally;
 mod timed;
 mod unmarked;
 
@@ -31,9 +30,9 @@ const USAGE: &str = "usage:
   differ fuzz COUNT [SEED]       so many random calls and damaged tables, and more; a find is printed as a list
   differ bounded COUNT SEED      the same with tables at the limits, and every number that a call can give has to be met
   differ unmarked                the cases of the diary session that are not proved
-  differ write CASES FOLDER      the lists of conformance/, from the folder of the proved cases and from dice
+  differ write CASES FOLDER      the lists of conformance/, from the folder of the proved cases and from seeds
   differ play PATH               a list, or a folder of them, against both
-  differ published COUNT         the published queries on SQLite, for so many catalogues by dice
+  differ published COUNT         the published queries on SQLite, for so many random catalogues
   differ bench [CALL ..]         the table of docs/BENCHMARKS.md: times of the calls, as ratios
   differ costs                   the table of docs/CHECK-TIMES.md: what each call costs beyond the check, in plain passes
   differ stack                   what each call takes of the stack; fails above 1 MiB";

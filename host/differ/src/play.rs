@@ -144,12 +144,3 @@ pub fn offending(what: &Step, second: &Second) -> Vec<u64> {
     let Some(live) = delete_files.get(data_file).and_then(|id| catalog.delete_files.get(id)) else { return Vec::new() };
     (0..positions.len() as u64).filter(|i| live.positions.contains(&positions[*i as usize])).collect()
 }
-
-/// Plays a list from nothing against both; an error says at which line, counted from 0, they differ and in what.
-pub fn replay(lines: &[Line]) -> Result<(), (usize, String)> {
-    let mut pair = Pair::default();
-    for (at, line) in lines.iter().enumerate() {
-        pair.take(line).map_err(|how| (at, how))?;
-    }
-    Ok(())
-}

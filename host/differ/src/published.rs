@@ -3,8 +3,9 @@
 //! Where document 01 decides otherwise (the last table of docs/PAPER-MAP.md) the comparison says so: each such point is a `Decided`, and is counted.
 
 use crate::catalogue::Catalogue;
+use crate::moves;
 use crate::play::Pair;
-use crate::random::{self, Tally};
+use crate::player;
 use crate::sqlite;
 use second::dice::Dice;
 use second::paths::path;
@@ -103,14 +104,14 @@ struct Compared {
     decided: BTreeMap<Decided, u64>,
 }
 
-/// So many catalogues by dice.
+/// So many random catalogues.
 pub fn run(count: &str) -> Result<String, String> {
     let count: u64 = count.parse().map_err(|_| format!("no count: {count}"))?;
     let mut states = Vec::new();
     for seed in 0..count {
-        let calls = 20 + 3 * (seed % 30);
-        let played = random::play_pair(Dice(90_000 + seed), calls, &mut Tally::default()).map_err(|find| find.how)?;
-        states.push((played, Dice(seed)));
+        let calls = 20 + 3 * (seed as usize % 30);
+        let (pair, _) = player::play_alone(&moves::list_of(90_000 + seed, calls))?;
+        states.push((pair, Dice(seed)));
     }
     let mut sql = sqlite::SCHEMA.to_string();
     let mut asked = Vec::new();
@@ -197,13 +198,14 @@ impl Compared {
         let outcome = pair.proved.read(&question.reading, &mut area);
         let rows: Vec<&str> = answer.lines().collect();
         match outcome.number {
-            0 => self.accepted(pair, catalog, &question.reading, &area[..outcome.length], &rows),
-            5 => Ok(self.decide(Decided::SnapshotNotRetained)),
+            0 => return self.accepted(pair, catalog, &question.reading, &area[..outcome.length], &rows),
+            5 => self.decide(Decided::SnapshotNotRetained),
             // A column that is not live at the snapshot may have statistics; a table then has no files there either.
-            6 if rows.is_empty() || matches!(question.reading, Reading::FilteredFiles { .. }) => Ok(self.decide(Decided::NothingLive)),
-            7 if rows == ["NULL"] => Ok(self.decide(Decided::NoSnapshotByThen)),
-            number => Err(format!("refused with {number}, and the query gives {rows:?}")),
+            6 if rows.is_empty() || matches!(question.reading, Reading::FilteredFiles { .. }) => self.decide(Decided::NothingLive),
+            7 if rows == ["NULL"] => self.decide(Decided::NoSnapshotByThen),
+            number => return Err(format!("refused with {number}, and the query gives {rows:?}")),
         }
+        Ok(())
     }
 
     fn accepted(&mut self, pair: &mut Pair, catalog: &Catalog, reading: &Reading, answer: &[u64], rows: &[&str]) -> Result<(), String> {
