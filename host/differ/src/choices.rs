@@ -77,6 +77,12 @@ impl Pick {
         list.get(self.below(list.len())).copied()
     }
 
+    /// The same, where the choice 0 is the last: what is newest outlives a shorter list.
+    pub fn of_newest<T>(self, mut list: impl DoubleEndedIterator<Item = T> + ExactSizeIterator) -> Option<T> {
+        let back = self.below(list.len());
+        list.nth_back(back)
+    }
+
     /// A number up to a last one, which is the choice 0.
     pub fn up_to(self, last: u64) -> u64 {
         last - u64::from(self.0) % last.saturating_add(1)
@@ -112,11 +118,11 @@ pub fn id() -> impl Strategy<Value = Id> {
 }
 
 impl Id {
-    /// The first that is live.
-    pub const FIRST: Id = Id { pick: Pick(0), is_any: false };
+    /// The newest that is live.
+    pub const NEWEST: Id = Id { pick: Pick(0), is_any: false };
 
     pub fn among(self, live: &[u64], next: u64) -> u64 {
-        self.pick.of(live).filter(|_| !self.is_any).unwrap_or_else(|| self.pick.up_to(next))
+        self.pick.of_newest(live.iter().copied()).filter(|_| !self.is_any).unwrap_or_else(|| self.pick.up_to(next))
     }
 }
 

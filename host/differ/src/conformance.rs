@@ -9,7 +9,7 @@ use std::fs;
 use std::path::Path;
 
 /// Random lists: the seed of the first, how many, and how many calls each has.
-const RANDOM: (u64, u64, usize) = (7_000, 12, 40);
+const RANDOM: (u64, u64, usize) = (7_400, 12, 40);
 
 /// A list with its answer area before each call, and what came of it after it. An error is a difference.
 fn with_answers(lines: &[Line]) -> Result<String, String> {

@@ -124,7 +124,9 @@ impl Player<'_> {
         if let Some(raised) = next.raised.filter(|_| is_lifted && self.history.is_none()) {
             self.raise(&raised, &catalog)?;
         }
-        self.call(next.call.on(&catalog), next.room)?;
+        if let Some((call, room)) = &next.call {
+            self.call(call.on(&catalog), *room)?;
+        }
         for asked in &next.readings {
             self.read(asked, &catalog)?;
         }
@@ -150,9 +152,10 @@ impl Player<'_> {
     }
 
     fn raise(&mut self, raised: &Raised, catalog: &Catalog) -> Done {
-        if !catalog.tables.is_empty() {
-            let index = SIZES[TABLES] * raised.table.below(catalog.tables.len()) + 4;
-            self.take(Line::Set { run: TABLES, index, value: NUMBER_LIMIT - raised.below })?;
+        let at = raised.table.below(catalog.tables.len());
+        if let Some(table) = catalog.tables.values().nth(at) {
+            let value = table.next_row_id.max(NUMBER_LIMIT - raised.below);
+            self.take(Line::Set { run: TABLES, index: SIZES[TABLES] * at + 4, value })?;
         }
         Ok(())
     }

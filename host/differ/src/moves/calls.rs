@@ -104,7 +104,7 @@ impl Kind {
             return Some(Kind::CreateSchema { name: b"main" });
         }
         if works_on >= 2 && live.tables.is_empty() {
-            return Some(Kind::CreateTable { schema: Id::FIRST, name: b"diary", columns: Columns::two() });
+            return Some(Kind::CreateTable { schema: Id::NEWEST, name: b"diary", columns: Columns::two() });
         }
         (works_on >= 3 && live.data_files.is_empty()).then(|| Kind::Insert(Insertion::plain()))
     }

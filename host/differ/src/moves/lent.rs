@@ -23,7 +23,7 @@ pub struct Lent {
 fn places() -> impl Strategy<Value = [usize; 9]> {
     prop_oneof![
         1 => uniform9(0..5_usize),
-        2 => uniform9(prop_oneof![0..5_usize, 20..60_usize]),
+        3 => uniform9(prop_oneof![1 => 0..5_usize, 4 => 20..60_usize]),
         2 => uniform9(4..12_usize),
         2 => uniform9(6..18_usize),
         3 => uniform9(20..60_usize),

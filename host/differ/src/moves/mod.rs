@@ -11,7 +11,7 @@ mod tables;
 use crate::choices::{mostly, one_in, pick, rarely, Pick};
 use damage::Damage;
 use lent::Lent;
-use proptest::array::uniform4;
+use proptest::array::{uniform32, uniform4};
 use proptest::collection::vec;
 use proptest::prelude::*;
 use proptest::sample::select;
@@ -38,8 +38,7 @@ pub struct Move {
     /// Which of the questions of demand 3 are asked, if any.
     pub questions: Option<Pick>,
     pub raised: Option<Raised>,
-    pub call: calls::Choice,
-    pub room: Room,
+    pub call: Option<(calls::Choice, Room)>,
 }
 
 /// The answer area of a call.
@@ -96,20 +95,26 @@ fn damaged() -> impl Strategy<Value = Damaged> {
 
 fn one_move() -> BoxedStrategy<Move> {
     let raised = (pick(), 0..12_u64).prop_map(|(table, below)| Raised { table, below });
-    (vec(damaged(), 0..=3), vec(asked(), 0..=4), rarely(8, pick()), rarely(12, raised), calls::call(), room())
-        .prop_map(|(damaged, readings, questions, raised, call, room)| Move { damaged, readings, questions, raised, call, room })
+    (vec(damaged(), 0..=3), vec(asked(), 0..=4), rarely(8, pick()), rarely(12, raised), mostly((calls::call(), room())))
+        .prop_map(|(damaged, readings, questions, raised, call)| Move { damaged, readings, questions, raised, call })
         .boxed()
 }
 
 fn list(moves: impl Strategy<Value = Vec<Move>>) -> impl Strategy<Value = List> {
     let time = prop_oneof![5 => Just(100), 1 => any::<u64>()];
     let lifted = rarely(5, uniform4(proptest::option::weighted(0.66, 0..24_u64)).prop_map(Lifted));
-    (moves, lifted, time, room(), lent::lent()).prop_map(|(moves, lifted, time, room, lent)| List { moves, lent, time, room, lifted })
+    // When the moves are as small as they get, shrinking tries once more to do without each of the first.
+    let kept = uniform32(proptest::bool::weighted(1.0));
+    (moves, kept, lifted, time, room(), lent::lent()).prop_map(|(moves, kept, lifted, time, room, lent)| {
+        let kept = kept.into_iter().chain(std::iter::repeat(true));
+        let moves = moves.into_iter().zip(kept).filter(|(_, is_kept)| *is_kept).map(|(next, _)| next).collect();
+        List { moves, lent, time, room, lifted }
+    })
 }
 
 /// Moves in groups, so that shrinking drops many at once: so many groups at most.
 pub fn list_up_to(groups: usize) -> impl Strategy<Value = List> {
-    list(vec(vec(mostly(one_move()), 1..=8), 0..=groups).prop_map(|groups| groups.into_iter().flatten().flatten().collect()))
+    list(vec(vec(one_move(), 1..=8), 0..=groups).prop_map(|groups| groups.concat()))
 }
 
 /// The list of a seed with just so many moves.
@@ -119,6 +124,7 @@ pub fn list_of(seed: u64, count: usize) -> List {
 
 /// Makes the list of a seed, and makes a find smaller for so long at most.
 pub fn runner(seed: u64, shrinking: Duration) -> TestRunner {
+    // u32::MAX would be proptest's own number.
     let config =
         Config { failure_persistence: None, max_shrink_time: shrinking.as_millis() as u32, max_shrink_iters: u32::MAX - 1, ..Config::default() };
     let mut bytes = [0; 32];

@@ -59,7 +59,7 @@ impl Choice {
 }
 
 fn key_of<V>(pick: Pick, records: &std::collections::BTreeMap<u64, V>) -> Option<u64> {
-    records.keys().nth(pick.below(records.len())).copied()
+    pick.of_newest(records.keys().copied())
 }
 
 impl Kind {

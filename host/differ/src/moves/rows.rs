@@ -1,11 +1,12 @@
 //! Inserts with their statistics, and deletes with their positions, by choices.
 
-use crate::choices::{bound, id, one_in, pick, rarely, uuid, Id, Live, Pick, Uuid};
+use crate::choices::{bound, id, pick, rarely, uuid, Id, Live, Pick, Uuid};
 use proptest::bits;
 use proptest::collection::vec;
 use proptest::prelude::*;
 use second::lent::RECORD_COUNT_LIMIT;
 use second::records::Column;
+use second::types::Type;
 use second::{Call, Catalog};
 
 #[derive(Clone, Debug)]
@@ -21,8 +22,26 @@ pub struct Insertion {
 #[derive(Clone, Debug)]
 struct Statistics {
     nulls: Pick,
-    min: Option<i64>,
-    max: Option<i64>,
+    min: Option<End>,
+    max: Option<End>,
+}
+
+/// A bound: a value, or one beside the lowest or the highest of the column's type.
+#[derive(Clone, Copy, Debug)]
+enum End {
+    Value(i64),
+    Lowest(i64),
+    Highest(i64),
+}
+
+impl End {
+    fn of(self, kind: Type) -> i64 {
+        match self {
+            End::Value(value) => value,
+            End::Lowest(beside) => kind.values().start().saturating_add(beside),
+            End::Highest(beside) => kind.values().end().saturating_add(beside),
+        }
+    }
 }
 
 /// As many rows as there may be is seldom, since all of them are read.
@@ -32,16 +51,17 @@ fn record_count() -> impl Strategy<Value = u64> {
 
 /// Bounds that suit every type.
 fn narrow() -> impl Strategy<Value = Statistics> {
-    let min = proptest::option::weighted(0.75, 0..2_i64);
-    let max = proptest::option::weighted(0.75, prop_oneof![24 => Just(1_i64), 1 => Just(300)]);
+    let min = proptest::option::weighted(0.75, (0..2_i64).prop_map(End::Value));
+    let max = proptest::option::weighted(0.75, Just(End::Value(1)));
     (pick(), min, max).prop_map(|(nulls, min, max)| Statistics { nulls, min, max })
 }
 
-/// Bounds at the ends of the types, mostly in order.
+/// Bounds at the ends of the column's type, or of any.
 fn wide() -> impl Strategy<Value = Statistics> {
-    let ends = (bound(), bound(), one_in(8)).prop_map(|(one, other, as_is)| if as_is { (one, other) } else { (one.min(other), one.max(other)) });
-    let given = (any::<bool>(), any::<bool>());
-    (ends, given).prop_map(|((min, max), (has_min, has_max))| Statistics { nulls: Pick(0), min: has_min.then_some(min), max: has_max.then_some(max) })
+    let any_end = || bound().prop_map(End::Value);
+    let min = proptest::option::of(prop_oneof![2 => (-1..=1_i64).prop_map(End::Lowest), 1 => any_end()]);
+    let max = proptest::option::of(prop_oneof![2 => (-1..=1_i64).prop_map(End::Highest), 1 => any_end()]);
+    (min, max).prop_map(|(min, max)| Statistics { nulls: Pick(0), min, max })
 }
 
 pub fn insertion() -> impl Strategy<Value = Insertion> {
@@ -52,7 +72,7 @@ pub fn insertion() -> impl Strategy<Value = Insertion> {
 impl Insertion {
     /// A few rows of which nothing is said.
     pub fn plain() -> Insertion {
-        Insertion { table: Id::FIRST, record_count: 6, uuid: Uuid::NEW, statistics: vec![Statistics { nulls: Pick(0), min: None, max: None }] }
+        Insertion { table: Id::NEWEST, record_count: 6, uuid: Uuid::NEW, statistics: vec![Statistics { nulls: Pick(0), min: None, max: None }] }
     }
 
     pub fn on(&self, catalog: &Catalog, live: &Live, time: u64) -> Call {
@@ -67,7 +87,7 @@ impl Statistics {
     /// No bounds where every value is null, and 0 where there is no bound.
     fn on(&self, id: u64, column: &Column, record_count: u64) -> [u64; 6] {
         let nulls = if column.nulls_allowed { self.nulls.below(record_count as usize + 1) as u64 } else { 0 };
-        let given = |bound: Option<i64>| bound.filter(|_| nulls != record_count);
+        let given = |end: Option<End>| end.filter(|_| nulls != record_count).map(|end| end.of(column.kind));
         let (min, max) = (given(self.min), given(self.max));
         [id, nulls, u64::from(min.is_some()), u64::from(max.is_some()), min.unwrap_or(0) as u64, max.unwrap_or(0) as u64]
     }
