@@ -6,7 +6,7 @@ use second::dice::damage::EDGES;
 use second::Catalog;
 
 /// Both sides of the types' ranges.
-pub const BOUNDS: [i64; 22] = [
+const BOUNDS: [i64; 22] = [
     0,
     1,
     2,
