@@ -1,5 +1,6 @@
 pub mod Cleanup
 pub mod CommitCounts
+pub mod CommitPromises
 pub mod CommitWords
 pub mod Commits
 pub mod Expiry

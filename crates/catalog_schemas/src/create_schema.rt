@@ -1,13 +1,13 @@
 ghost use Rattle.layout.specs.Lent.{atEntry, atExit};
 ghost use Rattle.ducklake.specs.Commits.{createSchema};
 ghost use Rattle.ducklake.specs.Calls.{commitAt, perform, Promise};
-use commit_checks::room::ONE_SCHEMA;
-use commit_checks::room::add_counts;
 use commit_refusals::create_schema::refuse_create_schema;
 use commit_writes::create_schema::write_create_schema;
 use layout::outcome::ACCEPTED;
 use layout::outcome::Counts;
 use layout::outcome::Outcome;
+use table_room::counts::ONE_SCHEMA;
+use table_room::counts::add_counts;
 
 // 'Create schema', a commit at that time.
 #[no_mangle]

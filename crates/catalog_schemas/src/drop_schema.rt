@@ -1,14 +1,14 @@
 ghost use Rattle.layout.specs.Lent.{atEntry, atExit};
 ghost use Rattle.ducklake.specs.Commits.{dropSchema};
 ghost use Rattle.ducklake.specs.Calls.{commitAt, perform, Promise};
-use commit_checks::room::ONE_SNAPSHOT;
-use commit_checks::room::add_counts;
 use commit_refusals::drop_schema::refuse_drop_schema;
 use commit_writes::drop_schema::write_drop_schema;
 use layout::number::CatalogId;
 use layout::outcome::ACCEPTED;
 use layout::outcome::Counts;
 use layout::outcome::Outcome;
+use table_room::counts::ONE_SNAPSHOT;
+use table_room::counts::add_counts;
 
 // 'Drop schema', a commit at that time.
 #[no_mangle]

@@ -1,7 +1,6 @@
 ghost use Rattle.layout.specs.Lent.{atEntry, atExit};
 ghost use Rattle.ducklake.specs.Commits.{createTable};
 ghost use Rattle.ducklake.specs.Calls.{commitAt, perform, Promise};
-use commit_checks::room::add_counts;
 use layout::number::CatalogId;
 use layout::outcome::ACCEPTED;
 use layout::outcome::Counts;
@@ -9,6 +8,7 @@ use layout::outcome::Outcome;
 use table_creation::refuse::refuse_create_table;
 use table_creation::room::table_added;
 use table_creation::write::write_create_table;
+use table_room::counts::add_counts;
 
 // 'Create table', a commit at that time: the columns are two words each, type and nulls_allowed, with a name place each.
 #[no_mangle]

@@ -1,3 +1,2 @@
-// The public calls that create and drop tables, as commits.
+// The public call that creates tables, as a commit.
 pub mod create_table;
-pub mod drop_table;

@@ -9,7 +9,6 @@ use Rattle.layout.specs.declared.outcome.Counts.{Counts}
 use Rattle.layout.specs.Fields.{tableSize, dataFileSize, deleteFileSize, scheduledSize}
 use Rattle.layout.specs.Catalog.{numberLimit, Snapshot, Catalog}
 use Rattle.layout.specs.Names.{nameSize}
-use Rattle.layout.specs.Words.{positionLimit}
 use Rattle.ducklake.specs.Soundness.{inLimit, snapshotInRange}
 use Rattle.call_laws.specs.Latest.{HasLatest}
 use Rattle.lookup.specs.Order.{SchemasById}
@@ -19,18 +18,6 @@ pub record CanFollow (s : Snapshot) (catalogIds fileIds : ℕ) : Type 0 where
   pub inRange : snapshotInRange s ≡ true
   pub fewCatalogIds : catalogIds ≤ numberLimit
   pub fewFileIds : fileIds ≤ numberLimit
-
--- counts so small that two can be added
-pub record Few (c : Counts) : Type 0 where
-  pub snapshots : c .snapshots ≤ positionLimit
-  pub schemas : c .schemas ≤ positionLimit
-  pub tables : c .tables ≤ positionLimit
-  pub columns : c .columns ≤ positionLimit
-  pub dataFiles : c .«data_files» ≤ positionLimit
-  pub deleteFiles : c .«delete_files» ≤ positionLimit
-  pub positions : c .positions ≤ positionLimit
-  pub statistics : c .statistics ≤ positionLimit
-  pub scheduled : c .scheduled ≤ positionLimit
 
 -- n records of `size` words, and a name place for each
 pub record WithNames (size : ℕ) (run names : List ℕ) (n : ℕ) : Type 0 where

@@ -1,10 +1,9 @@
-// What commits are refused for, each refusal a function: numbers, time, names, an empty schema, UUIDs, room; and how a commit's own refusals follow each other.
+// What commits are refused for, each refusal a function: numbers, time, names, an empty schema, UUIDs; and how a commit's own refusals follow each other.
 pub mod create_schema;
 pub mod drop_schema;
 pub mod drop_table;
 pub mod name;
 pub mod number;
-pub mod room;
 pub mod schema;
 pub mod time;
 pub mod uuid;

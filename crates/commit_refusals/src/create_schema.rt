@@ -3,14 +3,14 @@ ghost use Prim.Native.Nat.{ℕ};
 ghost use Rattle.layout.specs.Lent.{atEntry};
 ghost use Rattle.ducklake.specs.Commits.{createSchema};
 ghost use Rattle.ducklake.specs.Calls.{commitAt, refusal};
-use crate::room::has_room;
 use commit_checks::create_schema::judge_create_schema;
-use commit_checks::room::ONE_SCHEMA;
 use layout::outcome::ACCEPTED;
 use layout::outcome::Counts;
 use layout::outcome::NO_ROOM;
 use layout::outcome::NOT_SOUND;
 use soundness::check::is_sound;
+use table_room::counts::ONE_SCHEMA;
+use table_room::room::has_room;
 
 // The number of 'create schema'.
 pub fn refuse_create_schema(

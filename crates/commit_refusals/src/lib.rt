@@ -2,4 +2,3 @@
 pub mod create_schema;
 pub mod drop_schema;
 pub mod drop_table;
-pub mod room;

@@ -2,8 +2,8 @@
 ghost use Rattle.layout.specs.Lent.{atEntry, atExit};
 ghost use Rattle.ducklake.specs.Calls.{perform, Promise};
 ghost use Rattle.diary_session.specs.Session.{insertThree, insertTwo, deleteOne, deleteZero, after};
-use catalog_rows::delete::catalog_delete;
-use catalog_rows::insert::catalog_insert;
+use catalog_deletes::delete::catalog_delete;
+use catalog_inserts::insert::catalog_insert;
 use diary_session::DIARY;
 use layout::number::CatalogId;
 use layout::number::FileId;

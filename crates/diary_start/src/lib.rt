@@ -2,7 +2,7 @@
 ghost use Rattle.layout.specs.Lent.{atEntry, atExit};
 ghost use Rattle.ducklake.specs.Calls.{performFresh, Promise};
 ghost use Rattle.diary_session.specs.Session.{freshTime, createDiary, after};
-use catalog_maintenance::fresh::catalog_fresh;
+use catalog_fresh::fresh::catalog_fresh;
 use catalog_tables::create_table::catalog_create_table;
 use layout::number::COLUMN_ARGUMENT_SIZE;
 use layout::number::CatalogId;

@@ -9,7 +9,7 @@ use layout::outcome::Counts;
 use layout::outcome::NO_ROOM;
 use layout::outcome::NOT_SOUND;
 use soundness::check::is_sound;
-use soundness::room::capacity;
+use table_room::room::capacity;
 
 // The number of an expiry. It needs room for the files that it schedules alone, since all else shrinks.
 pub fn refuse_expiry(

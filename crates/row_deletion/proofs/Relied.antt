@@ -26,8 +26,9 @@ use Rattle.call_laws.proofs.Commits.{held-after}
 use Rattle.call_laws.proofs.CommitCounts.{delete-adds}
 use Rattle.call_laws.proofs.Ready.{Ready, ready, one-delete-file, positions-ascend}
 use Rattle.call_laws.proofs.Refusals.{AcceptedCall}
-use Rattle.commit_checks.specs.Relied.{Few}
-use Rattle.commit_checks.proofs.Relied.{few, files-lent}
+use Rattle.table_room.specs.Relied.{Few}
+use Rattle.commit_checks.proofs.Relied.{files-lent}
+use Rattle.table_room.proofs.Fewness.{few}
 use Rattle.commit_writes.proofs.Relied.{snapshot-room}
 use Rattle.lookup.specs.Order.{DataFilesById}
 use Rattle.lookup.specs.Positions.{PositionsWithin}

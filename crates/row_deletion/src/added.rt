@@ -6,7 +6,7 @@ ghost use Rattle.layout.specs.Words.{snapshotsIn, positionLimit, deleteFilesIn}
 ghost use Rattle.ducklake.specs.Liveness.{latestOf, deletedAt};
 ghost use Rattle.call_laws.specs.Latest.{HasLatest};
 ghost use Rattle.call_laws.specs.Writes.{addCounts};
-ghost use Rattle.commit_checks.specs.Relied.{Few};
+ghost use Rattle.table_room.specs.Relied.{Few};
 ghost use Rattle.lookup.specs.Positions.{PositionsWithin};
 ghost use Rattle.deleted_positions.specs.Deleted.{DeletesKnown};
 ghost use Rattle.row_deletion.specs.Deletion.{addedByDelete};

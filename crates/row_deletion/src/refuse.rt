@@ -17,8 +17,8 @@ use layout::outcome::NO_ROOM;
 use layout::outcome::NOT_SOUND;
 use layout::record::Uuid;
 use soundness::check::is_sound;
-use soundness::room::capacity;
-use soundness::room::is_within;
+use table_room::room::capacity;
+use table_room::room::is_within;
 
 // "2 the change needs more records or positions than are lent or allowed": whether the runs have room for what a delete adds.
 fn has_delete_room(

@@ -27,7 +27,7 @@ use Rattle.call_laws.proofs.CommitCounts.{insert-adds, statistics-length}
 use Rattle.call_laws.proofs.Ready.{Ready, ready, table-small}
 use Rattle.call_laws.proofs.Refusals.{AcceptedCall}
 use Rattle.lookup.specs.Order.{TablesById}
-use Rattle.commit_checks.specs.Relied.{Few}
+use Rattle.table_room.specs.Relied.{Few}
 use Rattle.commit_checks.proofs.Relied.{files-lent}
 use Rattle.commit_writes.proofs.Relied.{snapshot-room}
 use Rattle.row_insertion.specs.Given.{insertAdds}

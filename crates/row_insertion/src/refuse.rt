@@ -6,7 +6,6 @@ ghost use Rattle.ducklake.specs.Calls.{commitAt, refusal};
 ghost use Rattle.row_insertion.specs.Given.{insertAdds};
 use crate::judge::judge_insert;
 use crate::statistics::given_count;
-use commit_refusals::room::has_room;
 use layout::number::CatalogId;
 use layout::outcome::ACCEPTED;
 use layout::outcome::Counts;
@@ -14,6 +13,7 @@ use layout::outcome::NO_ROOM;
 use layout::outcome::NOT_SOUND;
 use layout::record::Uuid;
 use soundness::check::is_sound;
+use table_room::room::has_room;
 
 // What an insert adds: a snapshot, a data file and its statistics.
 pub fn insert_adds(new_statistics: &[u64]) -> Counts

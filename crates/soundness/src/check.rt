@@ -3,12 +3,12 @@ ghost use Rattle.layout.specs.Lent.{atEntry};
 ghost use Rattle.ducklake.specs.Soundness.{sound, firstUnsound};
 use crate::line::FIELDS_LINE;
 use crate::line::SOUND;
-use crate::room::capacity;
-use crate::room::is_within;
 use crate::stages::contents_line;
 use crate::stages::records_line;
 use crate::stages::relations_line;
 use layout::outcome::Counts;
+use table_room::room::capacity;
+use table_room::room::is_within;
 
 // The first line of 'Sound tables' that doesn't hold, or 0: any content of the runs, any counts. A stage relies on those before it.
 pub fn first_unsound(

@@ -1,5 +1,5 @@
-// Which line of 'Sound tables' the lent tables break, and what they have room for.
+// Which line of 'Sound tables' the lent tables break.
 pub mod check;
 pub mod line;
-pub mod room;
+pub mod positions;
 pub mod stages;

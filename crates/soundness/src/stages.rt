@@ -16,7 +16,7 @@ use crate::line::ROWS_LINE;
 use crate::line::SNAPSHOTS_LINE;
 use crate::line::SOUND;
 use crate::line::STATISTICS_LINE;
-use crate::room::positions_add_up;
+use crate::positions::positions_add_up;
 use layout::outcome::Counts;
 use soundness_deletes::deletes::deletes_sound;
 use soundness_deletes::rows::row_ranges_sound;

@@ -14,7 +14,7 @@ use Rattle.call_laws.proofs.Commits.{held-after}
 use Rattle.call_laws.proofs.CommitCounts.{create-table-adds}
 use Rattle.call_laws.proofs.Ready.{ready}
 use Rattle.call_laws.proofs.Refusals.{AcceptedCall}
-use Rattle.commit_checks.specs.Relied.{Few}
+use Rattle.table_room.specs.Relied.{Few}
 use Rattle.commit_checks.proofs.Judges.{name-short}
 use Rattle.commit_writes.proofs.Relied.{snapshot-room}
 use Rattle.column_arguments.proofs.Fits.{fit-whole, whole-few, columns-fit-any}

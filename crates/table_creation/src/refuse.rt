@@ -5,13 +5,13 @@ ghost use Rattle.ducklake.specs.Commits.{createTable};
 ghost use Rattle.ducklake.specs.Calls.{commitAt, refusal};
 use crate::judge::judge_create_table;
 use crate::room::table_added;
-use commit_refusals::room::has_room;
 use layout::number::CatalogId;
 use layout::outcome::ACCEPTED;
 use layout::outcome::Counts;
 use layout::outcome::NO_ROOM;
 use layout::outcome::NOT_SOUND;
 use soundness::check::is_sound;
+use table_room::room::has_room;
 
 // The number of 'create table'.
 pub fn refuse_create_table(

@@ -4,7 +4,7 @@ use mathlib.Core.Path.{refl, _∙_}
 use Rattle.ducklake.specs.Calls.{perform}
 use Rattle.diary_session.specs.Session.{deleteZero}
 use Rattle.diary_session.proofs.Chains.{promise-on}
-use Rattle.catalog_rows.proofs.delete.catalog_delete.Reads as catalog-delete-reads
+use Rattle.catalog_deletes.proofs.delete.catalog_delete.Reads as catalog-delete-reads
 use Rattle.diary_rows.proofs.delete_rows.Statement.{statement}
 use Rattle.diary_rows.proofs.delete_rows.Tie as tie
 use Rattle.diary_rows.proofs.delete_rows.Reads as reads

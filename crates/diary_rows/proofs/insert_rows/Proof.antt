@@ -4,7 +4,7 @@ use mathlib.Core.Path.{refl, _∙_}
 use Rattle.ducklake.specs.Calls.{perform}
 use Rattle.diary_session.specs.Session.{insertTwo}
 use Rattle.diary_session.proofs.Chains.{promise-on}
-use Rattle.catalog_rows.proofs.insert.catalog_insert.Reads as catalog-insert-reads
+use Rattle.catalog_inserts.proofs.insert.catalog_insert.Reads as catalog-insert-reads
 use Rattle.diary_rows.proofs.insert_rows.Statement.{statement}
 use Rattle.diary_rows.proofs.insert_rows.Tie as tie
 use Rattle.diary_rows.proofs.insert_rows.Reads as reads

@@ -5,7 +5,7 @@ use Rattle.diary_session.proofs.Chains.{promise-on}
 use Rattle.diary_start.proofs.ColumnNames.{promise-named}
 use Rattle.ducklake.specs.Calls.{perform}
 use Rattle.diary_session.specs.Session.{createDiary}
-use Rattle.catalog_maintenance.proofs.fresh.catalog_fresh.Reads as catalog-fresh-reads
+use Rattle.catalog_fresh.proofs.fresh.catalog_fresh.Reads as catalog-fresh-reads
 use Rattle.names.proofs.write_name.Reads as write-name-reads
 use Rattle.catalog_tables.proofs.create_table.catalog_create_table.Reads as catalog-create-table-reads
 use Rattle.diary_start.proofs.start_diary.Statement.{statement}

@@ -3,19 +3,18 @@ use borrow.Author.Needs.{needs}
 use mathlib.Core.Path.{refl}
 use native.Mathlib.Omega.{arith}
 use Rattle.ducklake.specs.Calls.{placeOf}
-use Rattle.call_laws.proofs.Commits.{promise-commit}
 use Rattle.call_laws.proofs.CommitCounts.{create-schema-adds}
-use Rattle.call_laws.proofs.Promises.{promise-refused}
+use Rattle.call_laws.proofs.CommitPromises.{commit-refused, commit-accepted}
 use Rattle.call_laws.proofs.Ready.{ready}
 use Rattle.call_laws.proofs.Refusals.{accepted-call}
-use Rattle.commit_checks.proofs.Relied.{few}
+use Rattle.table_room.proofs.Fewness.{few}
 use Rattle.commit_writes.proofs.Relied.{create-schema-relies}
 use Rattle.catalog_schemas.proofs.create_schema.catalog_create_schema.Statement.{statement}
 use Rattle.catalog_schemas.proofs.create_schema.catalog_create_schema.Tie as tie
 
 returns : tie.Need-returns
 unfolding placeOf
-returns c = promise-refused _ _ _ _ (c .before .refuse-create-schema .ensures _) (c .if1 .taken) refl refl refl
+returns c = commit-refused _ _ _ _ _ (c .before .refuse-create-schema .ensures) (c .if1 .taken) refl
 
 write-create-schema-requires : tie.Need-write-create-schema-requires
 write-create-schema-requires c κs =
@@ -31,8 +30,7 @@ returns-2 : tie.Need-returns-2
 returns-2 c =
     let b = c .before .before .before .before .before .before .before in
     let a = b .before .before .before .before in
-    let A = accepted-call _ _ 0 _ (a .before .refuse-create-schema .ensures 0) (a .if1 .left) in
-    promise-commit _ _ (A .fits) _ _ (create-schema-adds _ _ _) _ (a .before .refuse-create-schema .ensures _) (a .if1 .left) (c .add-counts .ensures) (b .write-create-schema .ensures _ (A .fits) refl refl refl) refl
+    commit-accepted _ _ _ _ _ (a .before .refuse-create-schema .ensures) (a .if1 .left) (create-schema-adds _ _ _) (c .add-counts .ensures) (λ f. b .write-create-schema .ensures _ f refl refl refl)
 
 pub catalog-create-schema-spec : {M : Type 1} → statement M
 catalog-create-schema-spec =

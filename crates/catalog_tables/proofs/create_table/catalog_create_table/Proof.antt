@@ -3,12 +3,11 @@ use borrow.Author.Needs.{needs}
 use mathlib.Core.Path.{refl, sym, ap, _∙_}
 use Rattle.ducklake.specs.Calls.{placeOf}
 use Rattle.call_laws.specs.Writes.{addCounts}
-use Rattle.call_laws.proofs.Commits.{promise-commit}
 use Rattle.call_laws.proofs.CommitCounts.{create-table-adds}
-use Rattle.call_laws.proofs.Promises.{promise-refused}
+use Rattle.call_laws.proofs.CommitPromises.{commit-refused, commit-accepted}
 use Rattle.call_laws.proofs.Ready.{ready}
 use Rattle.call_laws.proofs.Refusals.{accepted-call}
-use Rattle.commit_checks.proofs.Relied.{few}
+use Rattle.table_room.proofs.Fewness.{few}
 use Rattle.table_creation.proofs.Judged.{create-table-passed}
 use Rattle.table_creation.proofs.Relied.{few-added, create-table-relies}
 use Rattle.catalog_tables.proofs.create_table.catalog_create_table.Statement.{statement}
@@ -16,7 +15,7 @@ use Rattle.catalog_tables.proofs.create_table.catalog_create_table.Tie 
 
 returns : tie.Need-returns
 unfolding placeOf
-returns c = promise-refused _ _ _ _ (c .before .refuse-create-table .ensures _) (c .if1 .taken) refl refl refl
+returns c = commit-refused _ _ _ _ _ (c .before .refuse-create-table .ensures) (c .if1 .taken) refl
 
 write-create-table-requires : tie.Need-write-create-table-requires
 write-create-table-requires c κs =
@@ -33,9 +32,7 @@ returns-2 : tie.Need-returns-2
 returns-2 c =
     let b = c .before .before .before .before .before .before .before .before .before .before .before .before in
     let a = b .before .before .before .before .before .before in
-    let A = accepted-call _ _ 0 _ (a .before .refuse-create-table .ensures 0) (a .if1 .left) in
-    promise-commit _ _ (A .fits) _ _ (create-table-adds _ _ _ _ _ _) _ (a .before .refuse-create-table .ensures _) (a .if1 .left)
-    (c .add-counts .ensures ∙ ap (addCounts _) (c .before .table-added .ensures)) (b .write-create-table .ensures _ (A .fits) refl refl refl refl refl) refl
+    commit-accepted _ _ _ _ _ (a .before .refuse-create-table .ensures) (a .if1 .left) (create-table-adds _ _ _ _ _ _) (c .add-counts .ensures ∙ ap (addCounts _) (c .before .table-added .ensures)) (λ f. b .write-create-table .ensures _ f refl refl refl refl refl)
 
 pub catalog-create-table-spec : {M : Type 1} → statement M
 catalog-create-table-spec =

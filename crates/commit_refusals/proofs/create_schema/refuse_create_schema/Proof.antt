@@ -8,7 +8,8 @@ use Rattle.call_laws.proofs.Commits.{room-after}
 use Rattle.call_laws.proofs.CommitCounts.{create-schema-adds}
 use Rattle.call_laws.proofs.Ready.{ready}
 use Rattle.call_laws.proofs.Refusals.{refusal-unsound, refusal-judged, refusal-full, refusal-none}
-use Rattle.commit_checks.proofs.Relied.{few, schemas-named, row-ids-fit}
+use Rattle.commit_checks.proofs.Relied.{schemas-named, row-ids-fit}
+use Rattle.table_room.proofs.Fewness.{few}
 use Rattle.commit_refusals.proofs.create_schema.refuse_create_schema.Statement.{statement}
 use Rattle.commit_refusals.proofs.create_schema.refuse_create_schema.Tie as tie
 

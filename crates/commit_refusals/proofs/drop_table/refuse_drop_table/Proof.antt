@@ -8,7 +8,8 @@ use Rattle.call_laws.proofs.Commits.{room-after}
 use Rattle.call_laws.proofs.CommitCounts.{drop-table-adds}
 use Rattle.call_laws.proofs.Ready.{ready}
 use Rattle.call_laws.proofs.Refusals.{refusal-unsound, refusal-judged, refusal-full, refusal-none}
-use Rattle.commit_checks.proofs.Relied.{few, row-ids-fit}
+use Rattle.commit_checks.proofs.Relied.{row-ids-fit}
+use Rattle.table_room.proofs.Fewness.{few}
 use Rattle.commit_refusals.proofs.drop_table.refuse_drop_table.Statement.{statement}
 use Rattle.commit_refusals.proofs.drop_table.refuse_drop_table.Tie as tie
 

@@ -5,7 +5,7 @@ use Rattle.layout.specs.Words.{load, within}
 use Rattle.call_laws.proofs.Commits.{room-after}
 use Rattle.call_laws.proofs.CommitCounts.{delete-adds}
 use Rattle.call_laws.proofs.Ready.{ready}
-use Rattle.commit_checks.proofs.Relied.{few}
+use Rattle.table_room.proofs.Fewness.{few}
 use Rattle.row_deletion.proofs.Relied.{positions-within, deletes-known, too-many}
 use Rattle.row_deletion.proofs.refuse.has_delete_room.Statement.{statement}
 use Rattle.row_deletion.proofs.refuse.has_delete_room.Tie as tie

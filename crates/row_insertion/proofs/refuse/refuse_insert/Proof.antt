@@ -9,7 +9,7 @@ use Rattle.call_laws.proofs.Commits.{room-after}
 use Rattle.call_laws.proofs.CommitCounts.{insert-adds}
 use Rattle.call_laws.proofs.Ready.{ready}
 use Rattle.call_laws.proofs.Refusals.{refusal-unsound, refusal-judged, refusal-full, refusal-none}
-use Rattle.commit_checks.proofs.Relied.{few}
+use Rattle.table_room.proofs.Fewness.{few}
 use Rattle.row_insertion.proofs.Relied.{insert-checked, adds-few, few-as}
 use Rattle.row_insertion.proofs.refuse.refuse_insert.Statement.{statement}
 use Rattle.row_insertion.proofs.refuse.refuse_insert.Tie as tie

@@ -9,7 +9,8 @@ use Rattle.call_laws.proofs.Commits.{room-after}
 use Rattle.call_laws.proofs.CommitCounts.{create-table-adds}
 use Rattle.call_laws.proofs.Ready.{ready}
 use Rattle.call_laws.proofs.Refusals.{refusal-unsound, refusal-judged, refusal-full, refusal-none}
-use Rattle.commit_checks.proofs.Relied.{few, tables-named, row-ids-fit}
+use Rattle.commit_checks.proofs.Relied.{tables-named, row-ids-fit}
+use Rattle.table_room.proofs.Fewness.{few}
 use Rattle.table_creation.proofs.Judged.{create-table-passed}
 use Rattle.table_creation.proofs.Relied.{few-added}
 use Rattle.table_creation.proofs.refuse.refuse_create_table.Statement.{statement}

@@ -1,0 +1,2 @@
+// The public call that deletes rows, as a commit.
+pub mod delete;

@@ -1,0 +1,2 @@
+// The public call that begins a catalogue.
+pub mod fresh;

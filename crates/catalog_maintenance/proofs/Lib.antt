@@ -1,2 +1,0 @@
-pub mod CleanupLaws
-pub mod FreshLaws
