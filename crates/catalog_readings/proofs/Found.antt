@@ -7,9 +7,8 @@ use Rattle.layout.specs.declared.outcome.Counts.{Counts}
 use Rattle.layout.specs.Words.{Words}
 use Rattle.ducklake.specs.Soundness.{sound}
 use Rattle.call_laws.proofs.Ready.{Ready, ready}
-use Rattle.lookup.specs.Order.{SnapshotsById, SnapshotsByTime, SchemasById, TablesById, ColumnsByTable, DataFilesById, DeleteFilesById}
+use Rattle.lookup.specs.Order.{SnapshotsById, SnapshotsByTime, SchemasById, TablesById, ColumnsByTable}
 use Rattle.listings.specs.Lent.{SchemasLent, TablesLent, ColumnsLent, NamedLent}
-use Rattle.file_lookup.specs.Runs.{FilesById}
 
 module _ (w : Words) (c : Counts) (h : sound w c ≡ true) where
   given : Ready w c
@@ -29,12 +28,6 @@ module _ (w : Words) (c : Counts) (h : sound w c ≡ true) where
 
   pub columns-by-table : ColumnsByTable (w .columns) (c .columns)
   columns-by-table = record { lent = given .held .columns; inside = omega arith; neverFalling = given .columnTables }
-
-  pub files-by-id : FilesById (w .dataFiles) (c .«data_files») (w .deleteFiles) (c .«delete_files»)
-  files-by-id = record {
-    dataFiles = record { lent = given .held .dataFiles; inside = omega arith; ascending = given .dataFileIds };
-    deleteFiles = record { lent = given .held .deleteFiles; inside = omega arith; ascending = given .deleteFileIds };
-  }
 
   pub schemas-lent : SchemasLent (w .snapshots) (w .schemas) c
   schemas-lent = record { snapshots = snapshots-by-id; schemas = given .held .schemas }

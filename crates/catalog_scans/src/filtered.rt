@@ -2,6 +2,7 @@ ghost use Rattle.layout.specs.Lent.{atEntry};
 ghost use Rattle.layout.specs.Types.{signed};
 ghost use Rattle.ducklake.specs.Readings.{Query};
 ghost use Rattle.ducklake.specs.Calls.{queryAt, performReading, Promise};
+use crate::judge::judge_column;
 use layout::number::CatalogId;
 use layout::number::SnapshotId;
 use layout::outcome::ACCEPTED;
@@ -10,7 +11,6 @@ use layout::outcome::NOT_SOUND;
 use layout::outcome::Outcome;
 use scans::files::read_files;
 use scans::filter::Filter;
-use scans::judge::judge_column;
 use soundness::check::is_sound;
 use values::to_signed;
 

@@ -1,5 +1,5 @@
-// The public readings of a table's files, each with its delete file, of those that a filter keeps, and of its rows: any content of the runs, any counts,
-// any arguments.
-pub mod files;
+// The public readings of the files of a table that a filter keeps, each with its delete file, and of its rows: any content of the runs, any counts, any
+// arguments.
 pub mod filtered;
+pub mod judge;
 pub mod rows;

@@ -7,8 +7,8 @@ use layout::outcome::ACCEPTED;
 use layout::outcome::Counts;
 use layout::outcome::NOT_SOUND;
 use layout::outcome::Outcome;
+use row_lists::rows::read_rows;
 use scans::judge::judge_table;
-use scans::rows::read_rows;
 use soundness::check::is_sound;
 
 // The rows of a table at a retained snapshot.

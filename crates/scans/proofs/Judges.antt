@@ -1,64 +1,17 @@
--- The refusals of a reading before its answer's length, by the tests that were made; a table's columns stand together.
+-- The refusals of a reading of files before its answer's length, by the tests that were made.
 use Prim.Native.Nat.{ℕ}
-use mathlib.Core.Path.{_≡_, refl, sym, ap, _∙_}
-use mathlib.Core.Bool.{Bool, true, false, _&&_}
+use mathlib.Core.Path.{_≡_, refl}
+use mathlib.Core.Bool.{Bool}
 use mathlib.Core.List.{List}
-use lib.Dec.{eqb}
-use lib.IntN.{ℤ}
-use Rattle.lists.specs.Lists.{any}
-use Rattle.lists.specs.Runs.{from, field, at, Together}
-use Rattle.lists.proofs.Selections.{any-both, any-ext}
 use Rattle.layout.specs.declared.outcome.Counts.{Counts}
-use Rattle.layout.specs.Fields.{columnSize, columnTableWord, columnBeginWord}
-use Rattle.layout.specs.Catalog.{Versioned, Column}
-use Rattle.layout.specs.Records.{columnLayout}
-use Rattle.layout.specs.Words.{Words, load, snapshotsIn, tablesIn, columnAt, columnsIn}
-use Rattle.ducklake.specs.Liveness.{live, retained, isLive, columnsAt, columnLive}
+use Rattle.layout.specs.Words.{Words, load, snapshotsIn, tablesIn}
+use Rattle.ducklake.specs.Liveness.{retained, isLive}
 use Rattle.ducklake.specs.Refusals.{accepted, notRetained, notLive, need}
 use Rattle.ducklake.specs.Readings.{Query, judgeQuery}
 use Rattle.ducklake.specs.Calls.{queryAt, judgeReading}
-use Rattle.lookup.specs.declared.life.Life.{Life}
-use Rattle.lookup.specs.Versions.{lifeAt, withLife}
-use Rattle.scans.proofs.Statistics.{any-block}
 
 module _ (w : Words) (c : Counts) (s table : ℕ) {ns ts : List ℕ} {r l : Bool} (e : w .snapshots ≡ ns) (f : w .tables ≡ ts)
     (p : r ≡ retained (snapshotsIn ns (c .snapshots)) s) (q : l ≡ isLive (tablesIn ts (w .tableNames) (c .tables)) s table) where
   pub table-judged : need notRetained r (need notLive l accepted) ≡ judgeReading (load w c) (queryAt s (Query.files table)) accepted
   unfolding judgeReading judgeQuery load
   table-judged = rw (p, q, ← e, ← f) refl
-
-  pub column-judged : (column : ℕ) {cs : List ℕ} {k : Bool} → w .columns ≡ cs → k ≡ columnLive (columnsIn cs (w .columnNames) (c .columns)) s table column → (scalar : ℤ)
-      → need notRetained r (need notLive l (need notLive k accepted)) ≡ judgeReading (load w c) (queryAt s (Query.filteredFiles table column scalar)) accepted
-  unfolding judgeReading judgeQuery load
-  column-judged column g o scalar = rw (p, q, o, ← e, ← f, ← g) refl
-
--- rows are refused as files are
-pub rows-judged : (w : Words) (c : Counts) (s table : ℕ) → judgeReading (load w c) (queryAt s (Query.files table)) accepted ≡ judgeReading (load w c) (queryAt s (Query.rows table)) accepted
-unfolding judgeReading judgeQuery
-rows-judged w c s table = refl
-
--- a column of that id, live at s
-abbrev pub isColumn : ℕ → ℕ → Versioned Column → Bool
-isColumn column s v = eqb (v .id) column && live s v
-
-column-is : (run names : List ℕ) (i column s : ℕ) {x : ℕ} {l : Life} {b : Bool} → x ≡ at columnLayout run i .id → l ≡ lifeAt columnSize columnBeginWord run i → b ≡ live s (withLife l)
-    → isColumn column s (columnAt run names i) ≡ (eqb x column && b)
-unfolding field live
-column-is run names i column s e f g = rw (e, g, f) refl
-
-pub column-tested : (run names : List ℕ) (i column s : ℕ) {x : ℕ} {l : Life} {b t : Bool} → x ≡ at columnLayout run i .id → l ≡ lifeAt columnSize columnBeginWord run i → b ≡ live s (withLife l)
-    → (eqb x column && b) ≡ t → isColumn column s (columnAt run names i) ≡ t
-column-tested run names i column s e f g h = column-is run names i column s e f g ∙ h
-
-pub column-block : (run names : List ℕ) (n s table column : ℕ) {a e : ℕ} → Together (field columnSize columnTableWord run) n table a e
-    → columnLive (columnsIn run names n) s table column ≡ any (isColumn column s) (from (columnAt run names) a e)
-unfolding columnLive columnsAt field
-column-block run names n s table column {a} {e} T =
-    any-both (λ v. eqb (v .id) column) (λ v. eqb (v .body .table) table && live s v) (columnsIn run names n)
-    ∙ (any-ext _ (λ v. eqb (v .body .table) table && isColumn column s v) (columnsIn run names n) (λ v m. swap (eqb (v .id) column) (eqb (v .body .table) table) (live s v))
-    ∙ any-block (columnAt run names) (λ v. v .body .table) table n a e T (isColumn column s))
-  where
-    swap : (x y z : Bool) → (x && (y && z)) ≡ (y && (x && z))
-    swap true y z = refl
-    swap false true z = refl
-    swap false false z = refl

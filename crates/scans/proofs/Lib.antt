@@ -2,7 +2,6 @@ pub mod AnswerAreas
 pub mod FileLists
 pub mod Judges
 pub mod LiveDeletes
-pub mod Merges
-pub mod RowLists
+pub mod Readings
 pub mod SoundTables
 pub mod Statistics

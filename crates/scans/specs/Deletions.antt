@@ -2,7 +2,7 @@
 use Prim.Native.Nat.{ℕ, zero, suc, _*_, _≤_, _<_}
 use mathlib.Core.Path.{_≡_}
 use mathlib.Core.Bool.{Bool, _&&_}
-use mathlib.Core.List.{List, []}
+use mathlib.Core.List.{List}
 use lib.Dec.{eqb}
 use lib.ListN.{length, getD, set}
 use Rattle.lists.specs.declared.Found.{Found}
@@ -12,7 +12,7 @@ use Rattle.lists.specs.Runs.{at}
 use Rattle.layout.specs.Fields.{deleteFileSize}
 use Rattle.layout.specs.Records.{deleteFileLayout}
 use Rattle.layout.specs.Catalog.{absent, Versioned, DeleteFile}
-use Rattle.layout.specs.Words.{dataFileAt, positionsAt, deleteFilesIn}
+use Rattle.layout.specs.Words.{dataFileAt, deleteFilesIn}
 use Rattle.ducklake.specs.Liveness.{live}
 use Rattle.lookup.specs.Order.{DataFilesById}
 
@@ -46,8 +46,3 @@ pub record DeleteFilesFound (files : List ℕ) (n : ℕ) (run : List ℕ) (m s :
 abbrev pub deleteIdAt : List ℕ → ℕ → ℕ
 deleteIdAt run zero = absent
 deleteIdAt run (suc j) = at deleteFileLayout run j .id .0
-
--- its positions, or none
-abbrev pub deletedBy : List ℕ → List ℕ → ℕ → List ℕ
-deletedBy run positions zero = []
-deletedBy run positions (suc j) = positionsAt run positions j

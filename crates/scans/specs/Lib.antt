@@ -3,4 +3,3 @@ pub mod Deletions
 pub mod Filters
 pub mod Judged
 pub mod Readable
-pub mod Rows

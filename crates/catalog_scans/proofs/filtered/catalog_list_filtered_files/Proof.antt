@@ -4,8 +4,9 @@ use mathlib.Core.Path.{refl, sym, _∙_}
 use mir.Facts.{toZ-ofZ}
 use borrow.Author.Tests.{not-true, not-false}
 use Rattle.call_laws.proofs.Ready.{ready}
-use Rattle.scans.proofs.SoundTables.{column-lent, files-readable}
-use Rattle.catalog_scans.proofs.Scans.{unsound, judged, answered, filtered-answer}
+use Rattle.scans.proofs.SoundTables.{files-readable}
+use Rattle.scans.proofs.Readings.{unsound, judged, answered, filtered-answer}
+use Rattle.catalog_scans.proofs.Columns.{column-lent}
 use Rattle.catalog_scans.proofs.filtered.catalog_list_filtered_files.Statement.{statement}
 use Rattle.catalog_scans.proofs.filtered.catalog_list_filtered_files.Tie as tie
 

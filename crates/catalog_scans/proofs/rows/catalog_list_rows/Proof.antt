@@ -3,9 +3,9 @@ use borrow.Author.Needs.{needs}
 use mathlib.Core.Path.{refl, sym, _∙_}
 use borrow.Author.Tests.{not-true, not-false}
 use Rattle.call_laws.proofs.Ready.{ready}
-use Rattle.scans.proofs.SoundTables.{table-lent, rows-readable}
-use Rattle.scans.proofs.Judges.{rows-judged}
-use Rattle.catalog_scans.proofs.Scans.{unsound, judged, answered, rows-answer}
+use Rattle.scans.proofs.Readings.{unsound, judged, answered}
+use Rattle.scans.proofs.SoundTables.{table-lent}
+use Rattle.row_lists.proofs.SoundRows.{rows-readable, rows-answer, rows-judged}
 use Rattle.catalog_scans.proofs.rows.catalog_list_rows.Statement.{statement}
 use Rattle.catalog_scans.proofs.rows.catalog_list_rows.Tie as tie
 
