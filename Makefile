@@ -8,9 +8,11 @@ test:
 edits:
 	@sh tests/edits
 
-# Proves the program `diary` and what it stands on, saying so on the way, and runs it: document 01's three lines. Minutes the first time, seconds after that.
+# Proves the program `diary` and what it stands on, in the order of crates.txt, saying so on the way, and runs it: document 01's three lines. Minutes the first time, seconds
+# after that.
+below = awk -F: '{ name[NR] = $$1; deps[NR] = $$2 " " } END { all = " diary "; for (i = NR; i; i--) if (index(all, " " name[i] " ")) { all = all deps[i]; said = name[i] " " said } print said }'
 run:
-	@{ rt check diary 2>&1; echo "rt: ended with $$?"; } | sed -n -u '/^rt: /p' | tee /dev/stderr | grep -q -x 'rt: ended with 0' && target/bin/diary
+	@{ rt check $$($(below) crates.txt) 2>&1; echo "rt: ended with $$?"; } | sed -n -u '/^rt: /p' | tee /dev/stderr | grep -q -x 'rt: ended with 0' && target/bin/diary
 
 # The public calls as one archive, for include/gukoremo.h and host/gukoremo.
 library:

@@ -2,17 +2,17 @@
 use Prim.Native.Nat.{ℕ, zero, suc, _+_, _-_, _≤_, _<_}
 use mathlib.Core.Path.{_≡_, refl, sym, ap, _∙_}
 use mathlib.Core.Bool.{Bool, true, false, not, _&&_, _||_}
-use mathlib.Core.List.{List, [], _∷_, _++_, map, append-nil}
+use mathlib.Core.List.{List, [], _∷_, map, append-nil}
 use native.Mathlib.Omega.{arith}
 use native.Mathlib.Nat.{zero-add}
 use lib.Dec.{ltb, eqb}
-use lib.ListN.{length, getD, drop, set, length-map, length-set}
+use lib.ListN.{length, getD, set, length-map, length-set}
 use lib.Seq.{take-length, drop-length}
 use borrow.Author.Tests.{eq-eqb, eqb-true, eqb-false, lt-ltb, ltb-true, ltb-false}
-use Rattle.lists.specs.Lists.{range, all, any, chained, filter, has, count, bit}
+use Rattle.lists.specs.Lists.{range, any, chained, filter, has, count, bit}
 use Rattle.lists.specs.Runs.{overwrite}
-use Rattle.lists.proofs.Tests.{if, either, both, and, same-test, clash, reflects-ltb}
-use Rattle.lists.proofs.Members.{In, All, Pairwise, none, more, here, next, in-cons, each, in-map-of, in-range, in-any, any-in, all-in, reflects-has}
+use Rattle.lists.proofs.Tests.{if, both, and, same-test, clash, reflects-ltb}
+use Rattle.lists.proofs.Members.{In, All, Pairwise, none, more, here, next, each, in-map-of, in-range, all-in, reflects-has}
 use Rattle.lists.proofs.Counts.{count-range, count-zero, filter-length}
 use Rattle.lists.proofs.Layouts.{words-one-by-one}
 use Rattle.lists.proofs.Loops.{length-range, counted, counted-start, counted-pass, counted-fail, counted-room, sent, sent-start, sent-pass, sent-fail, sent-end}

@@ -1,22 +1,21 @@
 -- Rows of a table: the positions deleted in each file are those of the one delete file found, and files' rows follow each other.
-use Prim.Native.Nat.{ℕ, suc, _+_, _-_, _*_, _≤_, _<_}
+use Prim.Native.Nat.{ℕ, suc, _+_, _-_, _≤_, _<_}
 use mathlib.Core.Path.{_≡_, refl, sym, ap, _∙_}
 use mathlib.Core.Bool.{Bool, true, false}
-use mathlib.Core.List.{List, [], _∷_, _++_, map, flatMap, append-nil}
+use mathlib.Core.List.{List, [], _∷_, map, flatMap, append-nil}
 use native.Mathlib.Omega.{arith}
-use native.Mathlib.Nat.{add-zero, zero-add, add-assoc}
-use lib.Dec.{ltb}
+use native.Mathlib.Nat.{add-zero, zero-add}
 use lib.ListN.{length, getD, take, drop, length-append, length-take, length-drop}
 use lib.Seq.{drop-drop}
 use borrow.Rule.Slice.PartMut.{putMid}
 use Rattle.lists.specs.declared.Found.{Found}
 use Rattle.lists.specs.declared.Found.the-variants.{At, Nothing}
-use Rattle.lists.specs.Lists.{range, all, chained, filter}
+use Rattle.lists.specs.Lists.{range, filter}
 use Rattle.lists.specs.Runs.{from, overwrite}
-use Rattle.lists.proofs.Runs.{record-fits, overwrite-length}
+use Rattle.lists.proofs.Runs.{record-fits}
 use Rattle.lists.proofs.Places.{all-at}
 use Rattle.lists.proofs.Loops.{from-all, filter-pass, filter-fail, filter-end}
-use Rattle.lists.proofs.Writes.{laid, laid-start, laid-fail, laid-room, laid-pass, laid-done}
+use Rattle.lists.proofs.Writes.{laid, laid-fail, laid-room, laid-pass, laid-done}
 use Rattle.layout.specs.declared.outcome.Counts.{Counts}
 use Rattle.layout.specs.Fields.{dataFileSize}
 use Rattle.layout.specs.Catalog.{Versioned, DataFile, DeleteFile}
@@ -26,7 +25,7 @@ use Rattle.ducklake.specs.Readings.{fileRows}
 use Rattle.ducklake.specs.Soundness.{dataFileInRange}
 use Rattle.call_laws.proofs.Ready.{reflects-dataFile}
 use Rattle.lookup.proofs.Locations.{located-from}
-use Rattle.scans.specs.Deletions.{deletesIn, fromOne, DeleteFilesFound}
+use Rattle.scans.specs.Deletions.{fromOne, DeleteFilesFound}
 use Rattle.scans.specs.Filters.{inTable}
 use Rattle.row_lists.specs.Readable.{RowsLocated, RowsReadable}
 use Rattle.row_lists.specs.Rows.{rowsBut, deletedBy, FileRowsLocated}

@@ -1,12 +1,12 @@
 ghost use mathlib.Core.Path.{_≡_};
 ghost use mathlib.Core.Bool.{_&&_};
 ghost use mathlib.Core.List.{flatMap};
-ghost use Prim.Native.Nat.{_≤_, _+_, _*_};
+ghost use Prim.Native.Nat.{_≤_, _+_};
 ghost use lib.Dec.{ltb, eqb};
 ghost use lib.ListN.{length, getD};
 ghost use Rattle.lists.specs.Runs.{overwrite};
 ghost use Rattle.layout.specs.Catalog.{recordCountLimit};
-ghost use Rattle.layout.specs.Words.{dataFileAt, dataFilesIn, deleteFilesIn, tableLimit};
+ghost use Rattle.layout.specs.Words.{dataFileAt, dataFilesIn, deleteFilesIn};
 ghost use Rattle.ducklake.specs.Liveness.{dataFilesAt};
 ghost use Rattle.ducklake.specs.Readings.{fileRows};
 ghost use Rattle.scans.specs.Answers.{Answered};

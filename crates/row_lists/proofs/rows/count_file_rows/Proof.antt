@@ -1,7 +1,7 @@
 -- The deleted positions are distinct and below the record count: what is left is the difference.
 use borrow.Author.Needs.{needs}
 use Prim.Native.Nat.{_-_}
-use mathlib.Core.Path.{_≡_, sym, ap, ap₂, _∙_}
+use mathlib.Core.Path.{sym, ap, ap₂, _∙_}
 use native.Mathlib.Omega.{arith}
 use lib.ListN.{length}
 use Rattle.row_lists.proofs.Merges.{deleted-most, rows-left}

@@ -1,6 +1,6 @@
 -- What was read of the data file, and its deleted positions, are what the rows are made of.
 use borrow.Author.Needs.{needs}
-use mathlib.Core.Path.{_≡_, refl, sym, ap, _∙_}
+use mathlib.Core.Path.{ap, _∙_}
 use Rattle.row_lists.proofs.Merges.{rows-read, fit-read}
 use Rattle.row_lists.proofs.rows.write_file_rows.Statement.{statement}
 use Rattle.row_lists.proofs.rows.write_file_rows.Tie as tie
