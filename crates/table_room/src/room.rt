@@ -19,7 +19,8 @@ use layout::record::SnapshotRecord;
 use layout::record::StatisticsRecord;
 use layout::record::TableRecord;
 
-fn smaller(a: usize, b: usize) -> usize
+// The smaller of two numbers.
+pub fn smaller(a: usize, b: usize) -> usize
     ensures { λ r. ⌜ r ≡ min a b ⌝ }
 {
     if a < b {

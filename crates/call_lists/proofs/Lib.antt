@@ -1,0 +1,5 @@
+pub mod Parts
+pub mod Leading
+pub mod KindLaws
+pub mod Sessions
+pub mod DemandThree

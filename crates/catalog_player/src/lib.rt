@@ -1,0 +1,3 @@
+// Plays lists of calls.
+pub mod call;
+pub mod session;
