@@ -1,5 +1,10 @@
 .PHONY: test edits run library fuzz bench costs
 
+# Provers at a time, where none is asked for: twice as many as processors, since the crates of a level wait for its last, and at most one for each 4 GiB.
+ifndef RT_JOBS
+export RT_JOBS := $(shell awk -v most=$$((2 * $$(nproc))) '/^MemTotal/ { n = int($$2 / 4194304); print n < 1 ? 1 : n < most ? n : most }' /proc/meminfo)
+endif
+
 # Proves every crate from nothing, tries the must-fail edits, runs the programs and the scripts of tests/.
 test:
 	@sh tests/run

@@ -3,3 +3,4 @@ pub mod Leading
 pub mod KindLaws
 pub mod Sessions
 pub mod DemandThree
+pub mod Cases
