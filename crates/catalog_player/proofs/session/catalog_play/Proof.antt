@@ -104,54 +104,15 @@ returns c =
     session-whole (a .calls .now) (a .lists .now) (a .names .now) (lent (a .snapshots .now) (a .schemas .now) (a .schema-names .now) (a .tables .now) (a .table-names .now) (a .columns .now) (a .column-names .now) (a .data-files .now) (a .delete-files .now) (a .positions .now) (a .statistics .now) (a .scheduled .now)) (a .counts) (a .area .now) (a .told .now)
     (c .before .before .calls-played .ensures .0) (h .inv .0) (c .loop-test .left) (h .inv .4)
 
-same-length : tie.Need-same-length Inv-loop μ-loop
-same-length c = c .before .loop .inv .3 .snapshots
-
-same-length-2 : tie.Need-same-length-2 Inv-loop μ-loop
-same-length-2 c = c .before .loop .inv .3 .schemas
-
-same-length-3 : tie.Need-same-length-3 Inv-loop μ-loop
-same-length-3 c = c .before .loop .inv .3 .schemaNames
-
-same-length-4 : tie.Need-same-length-4 Inv-loop μ-loop
-same-length-4 c = c .before .loop .inv .3 .tables
-
-same-length-5 : tie.Need-same-length-5 Inv-loop μ-loop
-same-length-5 c = c .before .loop .inv .3 .tableNames
-
-same-length-6 : tie.Need-same-length-6 Inv-loop μ-loop
-same-length-6 c = c .before .loop .inv .3 .columns
-
-same-length-7 : tie.Need-same-length-7 Inv-loop μ-loop
-same-length-7 c = c .before .loop .inv .3 .columnNames
-
-same-length-8 : tie.Need-same-length-8 Inv-loop μ-loop
-same-length-8 c = c .before .loop .inv .3 .dataFiles
-
-same-length-9 : tie.Need-same-length-9 Inv-loop μ-loop
-same-length-9 c = c .before .loop .inv .3 .deleteFiles
-
-same-length-10 : tie.Need-same-length-10 Inv-loop μ-loop
-same-length-10 c = c .before .loop .inv .3 .positions
-
-same-length-11 : tie.Need-same-length-11 Inv-loop μ-loop
-same-length-11 c = c .before .loop .inv .3 .statistics
-
-same-length-12 : tie.Need-same-length-12 Inv-loop μ-loop
-same-length-12 c = c .before .loop .inv .3 .scheduled
-
-same-length-13 : tie.Need-same-length-13 Inv-loop μ-loop
-same-length-13 c = c .before .loop .inv .1
-
-same-length-14 : tie.Need-same-length-14 Inv-loop μ-loop
-same-length-14 c = c .before .loop .inv .2
-
 pub catalog-play-spec : {M : Type 1} → statement M
 catalog-play-spec =
     tie.close
     (tie.spec Inv-loop μ-loop
     (λ c κs. search needs) loop-holds call-at-requires mul-play-call sub-play-call part-play-call-start part-play-call-end play-call-requires
     write-outcome-requires add-answered add-i loop-less loop-again
-    same-length same-length-2 same-length-3 same-length-4 same-length-5 same-length-6 same-length-7
-    same-length-8 same-length-9 same-length-10 same-length-11 same-length-12 same-length-13 same-length-14
+    (λ c. c .before .loop .inv .3 .snapshots) (λ c. c .before .loop .inv .3 .schemas) (λ c. c .before .loop .inv .3 .schemaNames)
+    (λ c. c .before .loop .inv .3 .tables) (λ c. c .before .loop .inv .3 .tableNames) (λ c. c .before .loop .inv .3 .columns)
+    (λ c. c .before .loop .inv .3 .columnNames)
+    (λ c. c .before .loop .inv .3 .dataFiles) (λ c. c .before .loop .inv .3 .deleteFiles) (λ c. c .before .loop .inv .3 .positions)
+    (λ c. c .before .loop .inv .3 .statistics) (λ c. c .before .loop .inv .3 .scheduled) (λ c. c .before .loop .inv .1) (λ c. c .before .loop .inv .2)
     returns)
