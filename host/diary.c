@@ -29,6 +29,20 @@ static gukoremo_outcome accept(const char *what, gukoremo_outcome given)
     return given;
 }
 
+/* A list of two calls that have to be accepted, by what was told of them. */
+static void accept_both(const char *what, gukoremo_session given, const uint64_t *told)
+{
+    size_t i;
+    if (given.played != 2) {
+        fprintf(stderr, "%s: not played\n", what);
+        exit(1);
+    }
+    for (i = 0; i < given.played; i++, told += GUKOREMO_TOLD_SIZE) {
+        const gukoremo_outcome outcome = {told[0], told[1], told[2], given.counts};
+        accept(what, outcome);
+    }
+}
+
 static gukoremo_uuid uuid(uint64_t low)
 {
     gukoremo_uuid u = {0, low};
@@ -50,16 +64,19 @@ static void play(void)
 {
     static const uint64_t types[] = {GUKOREMO_INT64, 0, GUKOREMO_INT64, 1};
     static const char names[2][GUKOREMO_NAME_SIZE] = {"item", "price"};
-    static const uint64_t three[] = {1, 0, 1, 1, 1, 3, 2, 0, 1, 1, 9, 14}, two[] = {1, 0, 1, 1, 4, 5, 2, 1, 1, 1, 20, 20};
-    static const uint64_t first[] = {0}, second[] = {1};
+    static const uint64_t three[] = {1, 0, 1, 1, 1, 3, 2, 0, 1, 1, 9, 14}, first[] = {0};
+    /* an insert into table 1 and a delete from data file 0 as a list of calls: UUIDs 2 and 3, their arguments 12 words and 1 */
+    static const uint64_t calls[2 * GUKOREMO_CALL_SIZE] = {
+        GUKOREMO_INSERTED_INTO_TABLE, 130, 1, 2, 0, 2, 0, 12, 0, 0, 0, 0, GUKOREMO_DELETED_FROM_TABLE, 140, 0, 0, 0, 3, 12, 1, 0, 0, 0, 0};
+    static const uint64_t lists[] = {1, 0, 1, 1, 4, 5, 2, 1, 1, 1, 20, 20, 1};
     const gukoremo_catalog_id main_schema = {0}, diary = {1};
     const gukoremo_file_id file = {0};
+    uint64_t told[2 * GUKOREMO_TOLD_SIZE];
 
     accept("Fresh", gukoremo_fresh(&lent, counts, 100));
     accept("create table", gukoremo_create_table(&lent, counts, 110, main_schema, "diary", 5, types, LENGTH(types), (const char *)names, sizeof names));
     accept("insert", gukoremo_insert(&lent, counts, 120, diary, 3, uuid(1), three, LENGTH(three)));
-    accept("insert", gukoremo_insert(&lent, counts, 130, diary, 2, uuid(2), two, LENGTH(two)));
-    accept("delete", gukoremo_delete(&lent, counts, 140, file, uuid(3), second, LENGTH(second)));
+    accept_both("insert, delete", gukoremo_play(&lent, counts, calls, LENGTH(calls), lists, LENGTH(lists), NULL, 0, NULL, 0, told, LENGTH(told)), told);
     accept("delete", gukoremo_delete(&lent, counts, 150, file, uuid(4), first, LENGTH(first)));
 }
 

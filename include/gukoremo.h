@@ -13,7 +13,8 @@
  *   - A run may be longer than whole records need, and longer than the limits below: the rest is not used.
  *   - A call takes less than 1 MiB of the stack, most of it for the check of the tables (802 KiB measured at the limits).
  *
- * What each call does is `Promise` in crates/ducklake/specs/Calls.antt, and of the last `firstUnsound` in Soundness.antt beside it. Words in quotes are those of document 01.
+ * What each call does is `Promise` in crates/ducklake/specs/Calls.antt, of a list of calls `SessionPromise` in crates/call_lists/specs/Playing.antt, and of the
+ * last `firstUnsound` in Soundness.antt beside the first. Words in quotes are those of document 01.
  */
 #ifndef GUKOREMO_H
 #define GUKOREMO_H
@@ -131,12 +132,14 @@ enum {
     GUKOREMO_SCHEDULED_SIZE = 4
 };
 
-/* The words of a column, and of a column's statistics, in an argument that is a list; of a file that a cleanup hands out; of a listed file */
+/* The words of a column, and of a column's statistics, in an argument that is a list; of a file that a cleanup hands out; of a listed file; of what is told of
+   a call in a list of calls */
 enum {
     GUKOREMO_COLUMN_ARGUMENT_SIZE = 2,     /* type, nulls_allowed */
     GUKOREMO_STATISTICS_ARGUMENT_SIZE = 6, /* column id, null_count, has_min, has_max, min, max */
     GUKOREMO_HANDED_SIZE = 3,              /* id, UUID high, UUID low */
-    GUKOREMO_LISTED_SIZE = 2               /* data file, delete file or GUKOREMO_ABSENT */
+    GUKOREMO_LISTED_SIZE = 2,              /* data file, delete file or GUKOREMO_ABSENT */
+    GUKOREMO_TOLD_SIZE = 3                 /* the outcome's number, place and length */
 };
 
 /* "change kinds" */
@@ -147,6 +150,29 @@ enum {
     GUKOREMO_DELETED_FROM_TABLE = 4,
     GUKOREMO_DROPPED_SCHEMA = 6,
     GUKOREMO_DROPPED_TABLE = 7
+};
+
+/* the kinds of the calls in a list of calls that make no snapshot */
+enum {
+    GUKOREMO_EXPIRED_SNAPSHOTS = 100,
+    GUKOREMO_CLEANED_UP = 101
+};
+
+/* A call in a list of calls; it reads the words that it takes. A start and a length are a span: of the words in lists, or of the bytes in names. */
+enum {
+    GUKOREMO_CALL_KIND = 0,         /* a commit's is that of its change; expiry and cleanup have the two above */
+    GUKOREMO_CALL_TIME = 1,         /* the time of a commit or an expiry, the t of a cleanup */
+    GUKOREMO_CALL_OBJECT = 2,       /* the schema, the table or the data file */
+    GUKOREMO_CALL_RECORD_COUNT = 3, /* of an insert */
+    GUKOREMO_CALL_UUID_HIGH = 4,    /* of an insert or a delete */
+    GUKOREMO_CALL_UUID_LOW = 5,
+    GUKOREMO_CALL_WORDS_START = 6, /* in lists: columns, statistics, positions or snapshot ids */
+    GUKOREMO_CALL_WORDS_LENGTH = 7,
+    GUKOREMO_CALL_NAME_START = 8, /* in names: the name of a new schema or table */
+    GUKOREMO_CALL_NAME_LENGTH = 9,
+    GUKOREMO_CALL_NAMES_START = 10, /* in names: the name places of a new table's columns */
+    GUKOREMO_CALL_NAMES_LENGTH = 11,
+    GUKOREMO_CALL_SIZE = 12
 };
 
 /* "Types" */
@@ -203,6 +229,13 @@ typedef struct {
     size_t length;
     gukoremo_counts counts;
 } gukoremo_outcome;
+
+/* What a list of calls gives: how many of them were played, the words of all their answers, the counts to pass next. */
+typedef struct {
+    size_t played;
+    size_t answered;
+    gukoremo_counts counts;
+} gukoremo_session;
 
 /* The numbers of an outcome. Of several refusals a call gives the first in this order: 1, then 5 to 19 rising, then 4, 2, 3. */
 enum {
@@ -354,7 +387,7 @@ typedef struct {
 } gukoremo_tables;
 
 /* The library's own functions. They have every argument of a call, a run as a pointer and a length, and want pointers that are not null; the functions below
- * them are for callers. Every call but the last has an answer area; only readings and the cleanup answer in it. */
+ * them are for callers. Every call but the last has an answer area; only readings and cleanups answer in it. */
 
 #define GUKOREMO_CHANGED                                                                                                                       \
     uint64_t *snapshots, size_t snapshots_length, uint64_t *schemas, size_t schemas_length, uint8_t *schema_names, size_t schema_names_length, \
@@ -382,6 +415,8 @@ gukoremo_outcome catalog_delete(GUKOREMO_CHANGED, uint64_t time, gukoremo_file_i
     size_t new_positions_length, GUKOREMO_AREA);
 gukoremo_outcome catalog_expire(GUKOREMO_CHANGED, const uint64_t *ids, size_t ids_length, uint64_t time, GUKOREMO_AREA);
 gukoremo_outcome catalog_cleanup(GUKOREMO_CHANGED, uint64_t t, GUKOREMO_AREA);
+gukoremo_session catalog_play(GUKOREMO_CHANGED, const uint64_t *calls, size_t calls_length, const uint64_t *lists, size_t lists_length,
+    const uint8_t *names, size_t names_length, GUKOREMO_AREA, uint64_t *told, size_t told_length);
 gukoremo_outcome catalog_list_schemas(GUKOREMO_READ, gukoremo_snapshot_id snapshot, GUKOREMO_AREA);
 gukoremo_outcome catalog_list_tables(GUKOREMO_READ, gukoremo_snapshot_id snapshot, gukoremo_catalog_id schema, GUKOREMO_AREA);
 gukoremo_outcome catalog_list_columns(GUKOREMO_READ, gukoremo_snapshot_id snapshot, gukoremo_catalog_id table, GUKOREMO_AREA);
@@ -496,6 +531,19 @@ static inline gukoremo_outcome gukoremo_expire(
 static inline gukoremo_outcome gukoremo_cleanup(const gukoremo_tables *runs, gukoremo_counts counts, uint64_t t, uint64_t *area, size_t area_length)
 {
     return catalog_cleanup(GUKOREMO_LENT(runs), counts, t, GUKOREMO_WORDS(area, area_length));
+}
+
+/* A list of calls: commits, expiries and cleanups, GUKOREMO_CALL_SIZE words each in calls, their arguments in spans of lists and names. Of a span that leaves
+ * its run a call has what is there. Each call is played on what the one before left, whether that was accepted or refused, with what the answers before have
+ * left of the area: its answer stands behind theirs, and GUKOREMO_TOLD_SIZE words of told say what it gave. The list ends before a record whose kind is no
+ * call's, and where told has no whole place left. Writes what its calls write, and told; words of area and told behind those stay. told overlaps nothing;
+ * calls, lists and names may overlap each other. Calls are refused, never the list. */
+static inline gukoremo_session gukoremo_play(const gukoremo_tables *runs, gukoremo_counts counts, const uint64_t *calls, size_t calls_length,
+    const uint64_t *lists, size_t lists_length, const char *names, size_t names_length, uint64_t *area, size_t area_length, uint64_t *told,
+    size_t told_length)
+{
+    return catalog_play(GUKOREMO_LENT(runs), counts, GUKOREMO_WORDS(calls, calls_length), GUKOREMO_WORDS(lists, lists_length),
+        GUKOREMO_NAME(names, names_length), GUKOREMO_WORDS(area, area_length), GUKOREMO_WORDS(told, told_length));
 }
 
 /* Readings write the answer at the front of the area, and nothing else; the counts come back as they went. */

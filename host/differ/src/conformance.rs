@@ -6,7 +6,7 @@ use crate::script::{self, Line};
 use crate::{from_cases, moves, player, unmarked};
 use cases::lists::Folder;
 use std::fs;
-use std::path::Path;
+use std::path::{Path, PathBuf};
 
 /// Random lists: the seed of the first, how many, and how many calls each has.
 const RANDOM: (u64, u64, usize) = (7_400, 12, 40);
@@ -61,23 +61,31 @@ pub fn write(cases: &str, folder: &str) -> Result<String, String> {
     Ok(format!("conformance: {written} lists written to {folder}"))
 }
 
-/// Plays the lists of a folder, or one list, against both.
-pub fn check(path: &str) -> Result<String, String> {
+/// The lists of a folder, or one list, by name.
+pub fn lists(path: &str) -> Result<Vec<(String, String)>, String> {
     let mut files = vec![Path::new(path).to_path_buf()];
     if Path::new(path).is_dir() {
         files = fs::read_dir(path).map_err(|e| format!("{path}: {e}"))?.flatten().map(|entry| entry.path()).collect();
         files.retain(|file| file.extension().is_some_and(|e| e == "txt"));
         files.sort();
     }
+    let named = |file: PathBuf| {
+        let name = file.display().to_string();
+        fs::read_to_string(file).map(|text| (name.clone(), text)).map_err(|e| format!("{name}: {e}"))
+    };
+    files.into_iter().map(named).collect()
+}
+
+/// Plays the lists of a folder, or one list, against both.
+pub fn check(path: &str) -> Result<String, String> {
+    let lists = lists(path)?;
     let mut calls = 0;
-    for file in &files {
-        let name = file.display();
-        let text = fs::read_to_string(file).map_err(|e| format!("{name}: {e}"))?;
-        calls += check_list(&text).map_err(|how| format!("{name}:{how}"))?;
+    for (name, text) in &lists {
+        calls += check_list(text).map_err(|how| format!("{name}:{how}"))?;
     }
     match calls {
         0 => Err(format!("conformance: no call in {path}")),
-        _ => Ok(format!("conformance: {} lists, {calls} calls as written, by both", files.len())),
+        _ => Ok(format!("conformance: {} lists, {calls} calls as written, by both", lists.len())),
     }
 }
 

@@ -43,7 +43,7 @@ pub fn bounded(count: &str, seed: &str) -> Result<String, String> {
     }
 }
 
-fn number(text: &str) -> Result<u64, String> {
+pub fn number(text: &str) -> Result<u64, String> {
     text.replace(['_', ','], "").parse().map_err(|_| format!("no number: {text}"))
 }
 

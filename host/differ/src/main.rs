@@ -2,6 +2,7 @@
 #![forbid(unsafe_code)]
 
 mod bench;
+mod call_words;
 mod catalogue;
 mod choices;
 mod conformance;
@@ -16,6 +17,7 @@ mod proved;
 mod published;
 mod runs;
 mod script;
+mod sessions;
 mod shapes;
 mod sqlite;
 mod stack;
@@ -32,6 +34,7 @@ const USAGE: &str = "usage:
   differ unmarked                the cases of the diary session that are not proved
   differ write CASES FOLDER      the lists of conformance/, from the folder of the proved cases and from seeds
   differ play PATH               a list, or a folder of them, against both
+  differ sessions PATH COUNT     the same lists and so many random ones, in lists that one call plays
   differ published COUNT         the published queries on SQLite, for so many random catalogues
   differ bench [CALL ..]         the table of docs/BENCHMARKS.md: times of the calls, as ratios
   differ costs                   the table of docs/CHECK-TIMES.md: what each call costs beyond the check, in plain passes
@@ -47,6 +50,7 @@ fn main() -> ExitCode {
         ["unmarked"] => unmarked::run(),
         ["write", cases, folder] => conformance::write(cases, folder),
         ["play", path] => conformance::check(path),
+        ["sessions", path, count] => sessions::run(path, count),
         ["published", count] => published::run(count),
         ["bench", ref calls @ ..] => bench::run(calls),
         ["costs"] => costs::run(),

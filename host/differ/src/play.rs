@@ -78,7 +78,7 @@ impl Pair {
         Ok(Played { outcome: proved, area })
     }
 
-    /// Outcome, every word, every byte, and what lies beside the runs. Of 17 either place may stand that is an offending one.
+    /// The outcome and the tables. Of 17 either place may stand that is an offending one.
     fn compare(&self, proved: &Outcome, other: &Outcome, deleted: &[u64]) -> Result<(), String> {
         let mut expected = *other;
         if proved.number == 17 && other.number == 17 {
@@ -93,6 +93,11 @@ impl Pair {
         if proved.number == 1 {
             self.compare_lines()?;
         }
+        self.compare_tables()
+    }
+
+    /// Every word, every byte, and what lies beside the runs.
+    pub fn compare_tables(&self) -> Result<(), String> {
         if !self.proved.margins_hold() {
             return Err("words beside the lent runs are not as they were".to_string());
         }
@@ -127,7 +132,7 @@ fn shown(outcome: &Outcome) -> String {
     format!("number {} place {} length {} counts {counts:?}", outcome.number, outcome.place, outcome.length)
 }
 
-fn difference<W: PartialEq + std::fmt::Display>(what: &str, left: &[W], right: &[W]) -> Result<(), String> {
+pub fn difference<W: PartialEq + std::fmt::Display>(what: &str, left: &[W], right: &[W]) -> Result<(), String> {
     if left == right {
         return Ok(());
     }

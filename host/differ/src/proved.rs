@@ -3,7 +3,7 @@
 use crate::catalogue::Catalogue;
 use crate::runs::{self, FIRST_NAMES, SIZES};
 use crate::step::Step;
-use gukoremo::{raw, CatalogId, FileId, SnapshotId, Tables, TablesView, Uuid};
+use gukoremo::{raw, CallList, CatalogId, FileId, Session, SnapshotId, Tables, TablesView, Uuid};
 use second::{Call, Counts, Outcome, Reading};
 
 const MARGIN: usize = 4;
@@ -121,12 +121,26 @@ impl Proved {
     }
 
     /// The answer area lent between margins for a call, and given back as it was left.
-    fn on_area(&mut self, area: &mut [u64], call: impl FnOnce(&mut Self, &mut [u64]) -> gukoremo::Outcome) -> Outcome {
+    fn on_area<R>(&mut self, area: &mut [u64], call: impl FnOnce(&mut Self, &mut [u64]) -> R) -> R {
         let mut lent = Lent::of(area, MARGIN_WORD);
-        let outcome = call(self, lent.run_mut());
+        let given = call(self, lent.run_mut());
         area.copy_from_slice(lent.run());
         self.margins_hold = self.margins_hold && lent.margins_hold();
-        outcome_of(outcome)
+        given
+    }
+
+    /// After a call that may have written the runs: the counts that it handed back, and what lies beside the runs.
+    fn changed(&mut self, counts: Counts) {
+        let margins_hold = self.words.iter().all(Lent::margins_hold) && self.names.iter().all(Lent::margins_hold);
+        self.margins_hold = self.margins_hold && margins_hold;
+        self.counts = counts;
+    }
+
+    /// Plays a list of calls as one call; gives how many were played, and the words of their answers.
+    pub fn play(&mut self, list: &CallList, area: &mut [u64], told: &mut [u64]) -> (usize, usize) {
+        let session = self.on_area(area, |this, area| this.on_area(told, |this, told| this.bare_play(list, area, told)));
+        self.changed(counts_of(session.counts));
+        (session.played, session.answered)
     }
 
     fn call(&mut self, call: &Call, area: &mut [u64]) -> gukoremo::Outcome {
@@ -179,6 +193,12 @@ impl Proved {
         }
     }
 
+    /// A list of calls likewise.
+    pub fn bare_play(&mut self, list: &CallList, area: &mut [u64], told: &mut [u64]) -> Session {
+        let counts = counts_to(&self.counts);
+        raw::play(self.tables(), counts, &list.calls, &list.lists, &list.names, area, told)
+    }
+
     /// The words and bytes of another's runs in the places of these, which are as long.
     pub fn write_over(&mut self, other: &Proved) {
         for (run, from) in self.words.iter_mut().zip(&other.words) {
@@ -228,15 +248,13 @@ impl Catalogue for Proved {
     }
 
     fn perform(&mut self, call: &Call, area: &mut [u64]) -> Outcome {
-        let given = self.on_area(area, |this, area| this.call(call, area));
-        let margins_hold = self.words.iter().all(Lent::margins_hold) && self.names.iter().all(Lent::margins_hold);
-        self.margins_hold = self.margins_hold && margins_hold;
-        self.counts = given.counts;
+        let given = outcome_of(self.on_area(area, |this, area| this.call(call, area)));
+        self.changed(given.counts);
         given
     }
 
     fn read(&mut self, reading: &Reading, area: &mut [u64]) -> Outcome {
-        self.on_area(area, |this, area| this.reading(reading, area))
+        outcome_of(self.on_area(area, |this, area| this.reading(reading, area)))
     }
 
     fn counts(&self) -> Counts {
@@ -267,9 +285,8 @@ fn counts_to(c: &Counts) -> gukoremo::Counts {
     }
 }
 
-fn outcome_of(given: gukoremo::Outcome) -> Outcome {
-    let c = given.counts;
-    let counts = Counts {
+fn counts_of(c: gukoremo::Counts) -> Counts {
+    Counts {
         snapshots: c.snapshots,
         schemas: c.schemas,
         tables: c.tables,
@@ -279,6 +296,9 @@ fn outcome_of(given: gukoremo::Outcome) -> Outcome {
         positions: c.positions,
         statistics: c.statistics,
         scheduled: c.scheduled,
-    };
-    Outcome { number: given.number, place: given.place, length: given.length, counts }
+    }
+}
+
+fn outcome_of(given: gukoremo::Outcome) -> Outcome {
+    Outcome { number: given.number, place: given.place, length: given.length, counts: counts_of(given.counts) }
 }

@@ -1,9 +1,12 @@
 //! What a call takes of the stack: each is made on a thread of its own, and the lowest page of the thread's stack that was touched then tells.
 
+use crate::call_words;
 use crate::limits::{self, ROOM};
 use crate::proved::Proved;
 use crate::shapes::SHAPES;
 use crate::step::{self, Step};
+use gukoremo::session::TOLD_SIZE;
+use gukoremo::CallList;
 use second::lent::{COLUMN_LIMIT, RECORD_LIMIT};
 use second::Call;
 use std::collections::BTreeMap;
@@ -24,15 +27,24 @@ const PAGE: usize = 4_096;
 /// What the thread itself may have touched below the caller's frame before the call.
 const OWN: usize = 16 * PAGE;
 
-/// The most that each call takes, accepted or refused, on tables of every shape; an error where one takes more than the limit.
+/// The most that each call takes, accepted or refused, by itself and in a list, on tables of every shape; an error where one takes more than the limit.
 pub fn run() -> Result<String, String> {
     let mut most: BTreeMap<&str, usize> = BTreeMap::new();
     for shape in SHAPES {
         let (full, steps) = limits::full(shape, RECORD_LIMIT - COLUMN_LIMIT, RECORD_LIMIT)?;
         for step in steps.into_iter().chain([Step::Call(Call::Fresh { time: 0 })]) {
-            let taken = taken(&full.proved, &step)?;
-            let most = most.entry(step::name(&step)).or_default();
-            *most = taken.max(*most);
+            let mut note = |name: &'static str, taken: usize| {
+                let most = most.entry(name).or_default();
+                *most = taken.max(*most);
+            };
+            let mut list = CallList::new();
+            if let Step::Call(call) = &step {
+                call_words::push(&mut list, call);
+            }
+            if !list.is_empty() {
+                note("play", taken(&full.proved, move |tables, area| tables.bare_play(&list, area, &mut [0; TOLD_SIZE]).played as u64)?);
+            }
+            note(step::name(&step), taken(&full.proved, move |tables, area| tables.bare(&step, area))?);
         }
     }
     let mut text = String::new();
@@ -48,14 +60,14 @@ pub fn run() -> Result<String, String> {
     }
 }
 
-/// Bytes of the stack that a step takes, in whole pages.
-fn taken(full: &Proved, step: &Step) -> Result<usize, String> {
-    let (mut tables, mut area, step) = (full.clone(), vec![1; ROOM], step.clone());
+/// Bytes of the stack that a call takes, in whole pages.
+fn taken(full: &Proved, call: impl FnOnce(&mut Proved, &mut [u64]) -> u64 + Send + 'static) -> Result<usize, String> {
+    let (mut tables, mut area) = (full.clone(), vec![1; ROOM]);
     let thread = thread::Builder::new().stack_size(STACK).spawn(move || {
         let frame = black_box(0_u8);
         let from = std::ptr::from_ref(black_box(&frame)).addr();
         let before = touched_below(from)?;
-        black_box(tables.bare(&step, &mut area));
+        black_box(call(&mut tables, &mut area));
         let after = touched_below(from)?;
         if before > OWN {
             return Err(format!("stack: {before} bytes were touched before the call"));

@@ -1,10 +1,12 @@
 //! A catalogue: tables with their counts, and the calls as methods.
 
+use crate::list::CallList;
 use crate::number::{CatalogId, FileId, RowId, SnapshotId, ABSENT, HANDED_SIZE};
-use crate::outcome::{Counts, Outcome, SHORT_ANSWER_AREA};
+use crate::outcome::{Counts, Outcome, ACCEPTED, SHORT_ANSWER_AREA};
 use crate::raw;
 use crate::record::{DataFileRecord, DeleteFileRecord, SnapshotRecord, Uuid};
 use crate::refusal::Refusal;
+use crate::session::TOLD_SIZE;
 use crate::tables::{Lend, Tables, TablesView};
 use crate::unsound::Line;
 use crate::values::{NewColumn, NewStatistics};
@@ -133,8 +135,38 @@ impl<T: Lend> Catalog<T> {
         let scheduled = self.counts.scheduled.min(self.lent.view().scheduled.len());
         let mut area = vec![0; scheduled * HANDED_SIZE];
         let length = self.change(|lent, counts| raw::cleanup(lent, counts, t, &mut area))?.length;
-        let handed = |words: &[u64]| Handed { file: FileId(words[0]), uuid: Uuid { high: words[1], low: words[2] } };
-        Ok(area[..length].chunks_exact(HANDED_SIZE).map(handed).collect())
+        Ok(handed(&area[..length]))
+    }
+
+    // Lists
+
+    /// Plays a list of calls, each on what the one before left, a refused one too. Of each it gives the files that it handed out, which a cleanup alone
+    /// does, or its refusal; nothing from a record on whose kind is no call's.
+    pub fn play(&mut self, list: &CallList) -> Vec<Result<Vec<Handed>, Refusal>> {
+        let mut area = vec![0; self.most_handed(list) * HANDED_SIZE];
+        let mut told = vec![0; list.len() * TOLD_SIZE];
+        let session = raw::play(self.lent.lend(), self.counts, &list.calls, &list.lists, &list.names, &mut area, &mut told);
+        self.counts = session.counts;
+        let mut answers = &area[..];
+        let outcome = |told: &[u64]| {
+            let (answer, rest) = answers.split_at(told[2] as usize);
+            answers = rest;
+            match told[0] {
+                ACCEPTED => Ok(handed(answer)),
+                number => Err(Refusal { number, place: told[1] }),
+            }
+        };
+        told.chunks_exact(TOLD_SIZE).take(session.played).map(outcome).collect()
+    }
+
+    /// No more files are handed out than are scheduled or on record before a list and one for each of its calls, for none is handed out twice. A count that
+    /// the tables have no room for is refused whatever the area.
+    fn most_handed(&self, list: &CallList) -> usize {
+        let (view, counts) = (self.lent.view(), self.counts);
+        let scheduled = counts.scheduled.min(view.scheduled.len());
+        let data_files = counts.data_files.min(view.data_files.len());
+        let delete_files = counts.delete_files.min(view.delete_files.len());
+        scheduled + data_files + delete_files + list.len()
     }
 
     // Readings
@@ -231,6 +263,12 @@ impl<T: Lend> Catalog<T> {
             }
         }
     }
+}
+
+/// The words of files that a cleanup hands out.
+fn handed(words: &[u64]) -> Vec<Handed> {
+    let file = |words: &[u64]| Handed { file: FileId(words[0]), uuid: Uuid { high: words[1], low: words[2] } };
+    words.chunks_exact(HANDED_SIZE).map(file).collect()
 }
 
 /// A file list's words, two for a file.

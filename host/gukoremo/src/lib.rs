@@ -1,7 +1,7 @@
 //! A DuckLake 0.3 snapshot catalogue on lent tables, for safe Rust: the compiled calls of the crates `catalog_*`.
 //!
 //! A [`Catalog`] is tables, which it owns ([`OwnedTables`]) or is lent ([`Tables`]), with the counts of what is used in them. Its methods are the calls. Each
-//! takes any content of the tables, and either does what document 01 says or gives a [`Refusal`] and changes nothing.
+//! takes any content of the tables, and either does what document 01 says or gives a [`Refusal`] and changes nothing. A [`CallList`] is played as one call.
 //!
 //! [`raw`] has the same calls with every argument and the whole outcome, answer area and all. All that is unsafe stands there.
 #![deny(unsafe_code)]
@@ -10,6 +10,7 @@ mod catalog;
 /// The lines of 'Sound tables' by number: the source that the proofs are about.
 #[path = "../../../crates/soundness/src/line.rt"]
 pub mod line;
+mod list;
 /// Numbers, limits, names of sizes: the same.
 #[path = "../../../crates/layout/src/number.rt"]
 pub mod number;
@@ -21,15 +22,18 @@ pub mod raw;
 #[path = "../../../crates/layout/src/record.rt"]
 pub mod record;
 mod refusal;
+pub mod session;
 mod tables;
 mod unsound;
 mod values;
 
 pub use catalog::{Catalog, File, Handed, Listed};
+pub use list::CallList;
 pub use number::{CatalogId, FileId, RowId, SnapshotId};
 pub use outcome::{Counts, Outcome};
 pub use record::{DataFileRecord, DeleteFileRecord, SnapshotRecord, Uuid};
 pub use refusal::{sentence, Refusal};
+pub use session::Session;
 pub use tables::{Lend, OwnedTables, Tables, TablesView};
 pub use unsound::Line;
 pub use values::{ColumnType, NewColumn, NewStatistics};

@@ -6,26 +6,27 @@
 use crate::number::{CatalogId, FileId, SnapshotId};
 use crate::outcome::{Counts, Outcome};
 use crate::record::Uuid;
+use crate::session::Session;
 use crate::tables::{Tables, TablesView};
 
-/// Calls that may write the runs: the function that is called here and its parameters, the compiled one and its own between the counts and the area.
-macro_rules! changes {
-    ($($(#[$doc:meta])* $name:ident($($argument:ident: $type:ty),*) = $symbol:ident($($given:expr => $raw:ty),*);)*) => {
-        extern "C" {
-            $(fn $symbol(
-                snapshots: *mut u64, snapshots_length: usize, schemas: *mut u64, schemas_length: usize, schema_names: *mut u8, schema_names_length: usize,
-                tables: *mut u64, tables_length: usize, table_names: *mut u8, table_names_length: usize,
-                columns: *mut u64, columns_length: usize, column_names: *mut u8, column_names_length: usize,
-                data_files: *mut u64, data_files_length: usize, delete_files: *mut u64, delete_files_length: usize,
-                positions: *mut u64, positions_length: usize, statistics: *mut u64, statistics_length: usize,
-                scheduled: *mut u64, scheduled_length: usize, counts: Counts, $(_: $raw,)* area: *mut u64, area_length: usize,
-            ) -> Outcome;)*
-        }
-        $($(#[$doc])*
-        pub fn $name(lent: Tables<'_>, counts: Counts, $($argument: $type,)* area: &mut [u64]) -> Outcome {
-            // Right, since each pointer and length are those of a slice, which is there for the whole call; the runs and the area are `&mut`, so that
-            // nothing else reaches them meanwhile and none overlaps another; the call asks for nothing more (it has no `requires`), writes only within
-            // them, keeps no pointer, ends, and does not unwind.
+/// A call that may write the runs: the function that is called here and its parameters, the compiled one and its own after the counts.
+macro_rules! change {
+    ($(#[$doc:meta])* $name:ident($($argument:ident: $type:ty),*) -> $result:ty = $symbol:ident($($given:expr => $raw:ty),*)) => {
+        $(#[$doc])*
+        pub fn $name(lent: Tables<'_>, counts: Counts, $($argument: $type),*) -> $result {
+            extern "C" {
+                fn $symbol(
+                    snapshots: *mut u64, snapshots_length: usize, schemas: *mut u64, schemas_length: usize, schema_names: *mut u8, schema_names_length: usize,
+                    tables: *mut u64, tables_length: usize, table_names: *mut u8, table_names_length: usize,
+                    columns: *mut u64, columns_length: usize, column_names: *mut u8, column_names_length: usize,
+                    data_files: *mut u64, data_files_length: usize, delete_files: *mut u64, delete_files_length: usize,
+                    positions: *mut u64, positions_length: usize, statistics: *mut u64, statistics_length: usize,
+                    scheduled: *mut u64, scheduled_length: usize, counts: Counts, $(_: $raw),*
+                ) -> $result;
+            }
+            // Right, since each pointer and length are those of a slice, which is there for the whole call; the runs, the area and what is told are
+            // `&mut`, so that nothing else reaches them meanwhile and none overlaps another; the call asks for nothing more (it has no `requires`), writes
+            // only within them, keeps no pointer, ends, and does not unwind.
             unsafe {
                 $symbol(
                     lent.snapshots.as_mut_ptr(), lent.snapshots.len(), lent.schemas.as_mut_ptr(), lent.schemas.len(),
@@ -34,9 +35,29 @@ macro_rules! changes {
                     lent.column_names.as_mut_ptr(), lent.column_names.len(), lent.data_files.as_mut_ptr(), lent.data_files.len(),
                     lent.delete_files.as_mut_ptr(), lent.delete_files.len(), lent.positions.as_mut_ptr(), lent.positions.len(),
                     lent.statistics.as_mut_ptr(), lent.statistics.len(), lent.scheduled.as_mut_ptr(), lent.scheduled.len(),
-                    counts, $($given,)* area.as_mut_ptr(), area.len(),
+                    counts, $($given),*
                 )
             }
+        }
+    };
+}
+
+/// Calls that change tables: what stands between the counts and the area.
+macro_rules! changes {
+    ($($(#[$doc:meta])* $name:ident($($argument:ident: $type:ty),*) = $symbol:ident($($given:expr => $raw:ty),*);)*) => {
+        $(change! {
+            $(#[$doc])* $name($($argument: $type,)* area: &mut [u64]) -> Outcome =
+                $symbol($($given => $raw,)* area.as_mut_ptr() => *mut u64, area.len() => usize)
+        })*
+    };
+}
+
+/// Calls that play others and tell of each, in a run after the area.
+macro_rules! plays {
+    ($($(#[$doc:meta])* $name:ident($($argument:ident: $type:ty),*) = $symbol:ident($($given:expr => $raw:ty),*);)*) => {
+        $(change! {
+            $(#[$doc])* $name($($argument: $type,)* area: &mut [u64], told: &mut [u64]) -> Session =
+                $symbol($($given => $raw,)* area.as_mut_ptr() => *mut u64, area.len() => usize, told.as_mut_ptr() => *mut u64, told.len() => usize)
         })*
     };
 }
@@ -123,6 +144,13 @@ changes! {
     expire(ids: &[u64], time: u64) = catalog_expire(ids.as_ptr() => *const u64, ids.len() => usize, time => u64);
     /// The answer is three words for each file: id, UUID high, UUID low.
     cleanup(t: u64) = catalog_cleanup(t => u64);
+}
+
+plays! {
+    /// The records of the calls, by [`crate::session::CallRecord`], and the runs that their spans lie in.
+    play(calls: &[u64], lists: &[u64], names: &[u8]) = catalog_play(
+        calls.as_ptr() => *const u64, calls.len() => usize, lists.as_ptr() => *const u64, lists.len() => usize,
+        names.as_ptr() => *const u8, names.len() => usize);
 }
 
 reads! {

@@ -4,8 +4,10 @@ use gukoremo::line::{DELETES_LINE, FIELDS_LINE, SNAPSHOTS_LINE, SOUND};
 use gukoremo::outcome::{
     ALREADY_DELETED, BAD_COLUMNS, BAD_NAME, BAD_RECORD_COUNT, EXPIRES_LATEST, NOT_LIVE, NOT_SOUND, NO_ROOM, NO_SNAPSHOT_BY_THEN, SCHEMA_NOT_EMPTY,
 };
+use gukoremo::session::CallRecord;
 use gukoremo::{
-    Catalog, CatalogId, ColumnType, Counts, File, FileId, Handed, Lend, Listed, NewColumn, NewStatistics, OwnedTables, Refusal, SnapshotId, Uuid,
+    CallList, Catalog, CatalogId, ColumnType, Counts, File, FileId, Handed, Lend, Listed, NewColumn, NewStatistics, OwnedTables, Refusal, SnapshotId,
+    Uuid,
 };
 
 const MAIN: CatalogId = CatalogId(0);
@@ -42,6 +44,21 @@ fn play<T: Lend>(tables: T) -> Result<Catalog<T>, Refusal> {
     catalog.delete(140, FileId(0), uuid(3), &[1])?;
     catalog.delete(150, FileId(0), uuid(4), &[0])?;
     Ok(catalog)
+}
+
+/// What the session has after Fresh, as a list.
+fn session() -> CallList {
+    let mut list = CallList::new();
+    list.push_create_table(110, MAIN, "diary", &columns());
+    list.push_insert(120, DIARY, 3, uuid(1), &statistics((1, 3), (9, 14), 0));
+    list.push_insert(130, DIARY, 2, uuid(2), &statistics((4, 5), (20, 20), 1));
+    list.push_delete(140, FileId(0), uuid(3), &[1]);
+    list.push_delete(150, FileId(0), uuid(4), &[0]);
+    list
+}
+
+fn handed(file: u64, low: u64) -> Handed {
+    Handed { file: FileId(file), uuid: uuid(low) }
 }
 
 fn rows<T: Lend>(catalog: &Catalog<T>, snapshot: u64) -> Vec<u64> {
@@ -87,7 +104,6 @@ fn rows_files_and_times() {
 #[test]
 fn expiry_and_cleanup() {
     let mut catalog = play(OwnedTables::with_room(ROOM)).unwrap();
-    let handed = |file, low| Handed { file: FileId(file), uuid: uuid(low) };
     // "M expire 4 at 160: delete file 2 is scheduled; M cleanup 160: nothing; M cleanup 161: file 2. Expire 5: 19."
     catalog.expire(&[SnapshotId(4)], 160).unwrap();
     assert_eq!(catalog.counts().scheduled, 1);
@@ -98,6 +114,55 @@ fn expiry_and_cleanup() {
     assert_eq!(catalog.drop_table(170, DIARY).unwrap().id, SnapshotId(6));
     catalog.expire(&[0, 1, 2, 3, 5].map(SnapshotId), 180).unwrap();
     assert_eq!(catalog.cleanup(181).unwrap(), [handed(0, 1), handed(1, 2), handed(3, 4)]);
+}
+
+#[test]
+fn a_list_is_its_calls_one_by_one() {
+    let mut catalog = Catalog::fresh(OwnedTables::with_room(ROOM), 100).unwrap();
+    let mut list = session();
+    assert_eq!(list.len(), 5);
+    // no kind of call: it and the drop are not played
+    list.push(CallRecord::new(5, 150, 0), &[], &[], &[]);
+    list.push_drop_table(150, DIARY);
+    assert_eq!(catalog.play(&list), vec![Ok(vec![]); 5]);
+    assert_eq!(catalog.into_parts(), play(OwnedTables::with_room(ROOM)).unwrap().into_parts());
+}
+
+#[test]
+fn a_list_with_maintenance_and_refusals() {
+    let room = Counts { snapshots: 10, schemas: 2, delete_files: 3, positions: 4, scheduled: 4, ..ROOM };
+    let mut catalog = Catalog::fresh(OwnedTables::with_room(room), 100).unwrap();
+    let refused = |number, place| Err(Refusal { number, place });
+    let none = || Ok(vec![]);
+    let mut list = session();
+    list.push_delete(155, FileId(1), uuid(5), &[1]);
+    list.push_delete(155, FileId(1), uuid(6), &[0, 1]);
+    list.push_delete(155, FileId(1), uuid(6), &[0]);
+    list.push_create_schema(155, "1 2");
+    assert_eq!(catalog.play(&list)[5..], [none(), refused(ALREADY_DELETED, 1), refused(NO_ROOM, 0), refused(BAD_NAME, 0)]);
+
+    let mut list = CallList::new();
+    list.push_expire(&[SnapshotId(4)], 160);
+    list.push_cleanup(160);
+    list.push_cleanup(161);
+    list.push_expire(&[SnapshotId(6)], 165);
+    list.push_drop_table(170, DIARY);
+    list.push_create_schema(170, "sales");
+    list.push_drop_schema(170, CatalogId(2));
+    list.push_expire(&[0, 1, 2, 3, 5, 6].map(SnapshotId), 180);
+    list.push_cleanup(181);
+    let given = catalog.play(&list);
+    assert_eq!(given[..4], [none(), none(), Ok(vec![handed(2, 3)]), refused(EXPIRES_LATEST, 0)]);
+    assert_eq!(given[4..8], [none(), none(), none(), none()]);
+    assert_eq!(given[8..], [Ok(vec![handed(0, 1), handed(1, 2), handed(3, 4), handed(4, 5)])]);
+    assert_eq!(catalog.list_schemas(SnapshotId(8)).unwrap(), [MAIN, CatalogId(2)]);
+    assert_eq!(catalog.list_schemas(SnapshotId(9)).unwrap(), [MAIN]);
+
+    // no list is refused, whatever the tables and the counts are
+    let most = Counts { scheduled: usize::MAX, data_files: usize::MAX, delete_files: usize::MAX, ..catalog.counts() };
+    let mut unsound = Catalog::resume(catalog.into_parts().0, most);
+    assert_eq!(unsound.play(&list), vec![refused(NOT_SOUND, 0); 9]);
+    assert_eq!((unsound.play(&CallList::new()), unsound.counts()), (vec![], most));
 }
 
 #[test]
