@@ -1,16 +1,19 @@
--- The definitions of lists of calls, computed: each kind's call with its arguments, spans at both ends of a run, where a list ends, and how many calls are played.
+-- The definitions of lists of calls, computed: each kind's call with its arguments, spans at both ends of a run, where a list ends, how many calls are
+-- played, what a call is given of the area and leaves for the next, and what is told of it.
 use Prim.Native.Nat.{ℕ}
 use mathlib.Core.Path.{_≡_, refl}
 use mathlib.Core.List.{List, [], _∷_, _++_}
 use lib.ListN.{replicate}
 use Rattle.lists.specs.Lists.{range, place}
+use Rattle.layout.specs.declared.outcome.Counts.{Counts}
 use Rattle.layout.specs.Records.{uuidOf}
+use Rattle.layout.specs.Words.{Words}
 use Rattle.ducklake.specs.Kinds.{createdSchema, createdTable, insertedIntoTable, deletedFromTable, droppedSchema, droppedTable}
 use Rattle.ducklake.specs.Commits.{createSchema, createTable, insert, delete, dropTable, dropSchema}
-use Rattle.ducklake.specs.Calls.{Call, commitAt, expireSnapshots, cleanUp}
+use Rattle.ducklake.specs.Calls.{Call, commitAt, expireSnapshots, cleanUp, Result, placeZero}
 use Rattle.call_lists.specs.Records.{readCall, spanOf}
 use Rattle.call_lists.specs.Calls.{part, expiredSnapshots, cleanedUp, callOf, callCount}
-use Rattle.call_lists.specs.Playing.{callsPlayed}
+use Rattle.call_lists.specs.Playing.{Played, stepOn, next, Tells, callsPlayed}
 
 -- a record of that kind: time 2, object 3, 4 rows, UUID 5 and 6, the words at 1 (two of them), the name at 0 (one byte), the names at 2 (two bytes)
 abbrev recordOf : ℕ → List ℕ
@@ -68,3 +71,20 @@ counts : (callsPlayed (recordOf cleanedUp ++ recordOf cleanedUp) (replicate 6 0)
     × (callsPlayed (recordOf cleanedUp ++ replicate 11 0) (replicate 6 0) ≡ 1) × (callsPlayed (recordOf cleanedUp) (replicate 2 0) ≡ 0)
 unfolding callsPlayed callCount range place
 counts = (refl, refl, refl, refl)
+
+module _ (w : Words) (c : Counts) where
+  -- one word is answered, two are left
+  abbrev before : Played
+  before = record { words = w; counts = c; area = 1 ∷ 2 ∷ 3 ∷ []; answered = 1 }
+
+  -- a call that answers a word
+  abbrev answers : Result
+  answers = record { number = 0; place = placeZero; length = 1; counts = c; words = w; area = 9 ∷ 3 ∷ [] }
+
+  -- it is given what is left, and its answer stands behind the one before
+  areas : (stepOn before (cleanUp 2) .area ≡ 2 ∷ 3 ∷ []) × (next before answers .area ≡ 1 ∷ 9 ∷ 3 ∷ []) × (next before answers .answered ≡ 2)
+  areas = (refl, refl, refl)
+
+  -- number, place and length, in this order
+  tells : Tells answers (7 ∷ 0 ∷ 0 ∷ 1 ∷ 7 ∷ []) 1
+  tells = record { number = refl; place = refl; length = refl }
