@@ -8,6 +8,11 @@ use Rattle.lists.proofs.Runs.{overwrite-length}
 use Rattle.row_lists.proofs.RowLists.{file-located, part-filled, part-length, read, Writing, writing-room, writing-pass, writing-fail, writing-end}
 use Rattle.row_lists.proofs.rows.write_rows.Statement.{statement}
 use Rattle.row_lists.proofs.rows.write_rows.Tie as tie
+use Rattle.row_lists.proofs.rows.write_rows.Reads as reads
+use Rattle.row_lists.proofs.rows.write_rows.Lts as lts
+use Rattle.row_lists.proofs.rows.count_file_rows.Reads as count-file-rows-reads
+use Rattle.row_lists.proofs.rows.write_file_rows.Reads as write-file-rows-reads
+use Rattle.scans.proofs.files.is_in_table.Reads as is-in-table-reads
 
 abbrev Inv-loop : tie.InvT-loop
 Inv-loop files run positions places starts table s area₀ n k₀ i₀ area k i =
@@ -26,79 +31,40 @@ count-file-rows-requires : tie.Need-count-file-rows-requires Inv-loop μ-loop
 count-file-rows-requires c κs =
     file-located (c .before .before .before .before .before .before .before .before .before .before .before .pre .0) (c .before .before .before .before .loop .i) (c .before .before .before .loop-test .taken)
 
+-- the rows of the next file have room behind those written
+has-room : (c : lts.After-count-file-rows (is-in-table-reads.Asked, is-in-table-reads.Learnt, count-file-rows-reads.Asked, count-file-rows-reads.Learnt, write-file-rows-reads.Asked, write-file-rows-reads.Learnt) reads.Pre reads.Post Inv-loop μ-loop)
+    → c .before .before .before .before .before .loop .k + c .count-file-rows .result ≤ length (c .before .before .before .before .before .loop .area)
+has-room c =
+    let s = c .before .before in
+    let h = s .before .before .before .loop in
+    let t = s .before .before .before .before .before .before .before .before .before .before in
+    let a = t .args in
+    omega (
+      arith,
+      c .count-file-rows .ensures .1,
+      writing-room (a .data-files .now) (a .delete-files .now) (a .positions .now) (a .places .now) (a .starts .now) (a .counts .«data_files») (a .table .0) (a .s .0) (h .i)
+          (s .before .before .loop-test .taken) (s .before .is-in-table .ensures) (a .area .now) (h .area) (h .k) (h .inv .1) (h .inv .2) (s .if1 .taken) (a .counts .«delete_files») (t .pre .0) (t .pre .1),
+    )
+
+-- and the area is as long as a run can be
+area-fits : tie.Need-mul-write-file-rows Inv-loop μ-loop
+area-fits c =
+    let s = c .before .before in
+    omega (
+      arith,
+      has-room c,
+      s .before .before .before .loop .inv .1,
+      s .before .before .before .before .before .before .before .before .before .before .good .1 .1 .1 .1 .1 .1 .1 .1 .0,
+    )
+
 add-end : tie.Need-add-end Inv-loop μ-loop
 add-end c =
     let s = c .before .before in
-    let h = s .before .before .before .loop in
-    let t = s .before .before .before .before .before .before .before .before .before .before in
-    let a = t .args in
     omega (
       arith,
-      h .inv .1,
-      c .count-file-rows .ensures .1,
-      t .good .1 .1 .1 .1 .1 .1 .1 .1 .0,
-      writing-room (a .data-files .now) (a .delete-files .now) (a .positions .now) (a .places .now) (a .starts .now) (a .counts .«data_files») (a .table .0) (a .s .0) (h .i)
-          (s .before .before .loop-test .taken) (s .before .is-in-table .ensures) (a .area .now) (h .area) (h .k) (h .inv .1) (h .inv .2) (s .if1 .taken) (a .counts .«delete_files») (t .pre .0) (t .pre .1),
-    )
-
-mul-write-file-rows : tie.Need-mul-write-file-rows Inv-loop μ-loop
-mul-write-file-rows c =
-    let s = c .before .before in
-    let h = s .before .before .before .loop in
-    let t = s .before .before .before .before .before .before .before .before .before .before in
-    let a = t .args in
-    omega (
-      arith,
-      h .inv .1,
-      c .count-file-rows .ensures .1,
-      t .good .1 .1 .1 .1 .1 .1 .1 .1 .0,
-      writing-room (a .data-files .now) (a .delete-files .now) (a .positions .now) (a .places .now) (a .starts .now) (a .counts .«data_files») (a .table .0) (a .s .0) (h .i)
-          (s .before .before .loop-test .taken) (s .before .is-in-table .ensures) (a .area .now) (h .area) (h .k) (h .inv .1) (h .inv .2) (s .if1 .taken) (a .counts .«delete_files») (t .pre .0) (t .pre .1),
-    )
-
-sub-write-file-rows : tie.Need-sub-write-file-rows Inv-loop μ-loop
-sub-write-file-rows c =
-    let s = c .before .before in
-    let h = s .before .before .before .loop in
-    let t = s .before .before .before .before .before .before .before .before .before .before in
-    let a = t .args in
-    omega (
-      arith,
-      h .inv .1,
-      c .count-file-rows .ensures .1,
-      t .good .1 .1 .1 .1 .1 .1 .1 .1 .0,
-      writing-room (a .data-files .now) (a .delete-files .now) (a .positions .now) (a .places .now) (a .starts .now) (a .counts .«data_files») (a .table .0) (a .s .0) (h .i)
-          (s .before .before .loop-test .taken) (s .before .is-in-table .ensures) (a .area .now) (h .area) (h .k) (h .inv .1) (h .inv .2) (s .if1 .taken) (a .counts .«delete_files») (t .pre .0) (t .pre .1),
-    )
-
-part-write-file-rows-start : tie.Need-part-write-file-rows-start Inv-loop μ-loop
-part-write-file-rows-start c =
-    let s = c .before .before in
-    let h = s .before .before .before .loop in
-    let t = s .before .before .before .before .before .before .before .before .before .before in
-    let a = t .args in
-    omega (
-      arith,
-      h .inv .1,
-      c .count-file-rows .ensures .1,
-      t .good .1 .1 .1 .1 .1 .1 .1 .1 .0,
-      writing-room (a .data-files .now) (a .delete-files .now) (a .positions .now) (a .places .now) (a .starts .now) (a .counts .«data_files») (a .table .0) (a .s .0) (h .i)
-          (s .before .before .loop-test .taken) (s .before .is-in-table .ensures) (a .area .now) (h .area) (h .k) (h .inv .1) (h .inv .2) (s .if1 .taken) (a .counts .«delete_files») (t .pre .0) (t .pre .1),
-    )
-
-part-write-file-rows-end : tie.Need-part-write-file-rows-end Inv-loop μ-loop
-part-write-file-rows-end c =
-    let s = c .before .before in
-    let h = s .before .before .before .loop in
-    let t = s .before .before .before .before .before .before .before .before .before .before in
-    let a = t .args in
-    omega (
-      arith,
-      h .inv .1,
-      c .count-file-rows .ensures .1,
-      t .good .1 .1 .1 .1 .1 .1 .1 .1 .0,
-      writing-room (a .data-files .now) (a .delete-files .now) (a .positions .now) (a .places .now) (a .starts .now) (a .counts .«data_files») (a .table .0) (a .s .0) (h .i)
-          (s .before .before .loop-test .taken) (s .before .is-in-table .ensures) (a .area .now) (h .area) (h .k) (h .inv .1) (h .inv .2) (s .if1 .taken) (a .counts .«delete_files») (t .pre .0) (t .pre .1),
+      has-room c,
+      s .before .before .before .loop .inv .1,
+      s .before .before .before .before .before .before .before .before .before .before .good .1 .1 .1 .1 .1 .1 .1 .1 .0,
     )
 
 write-file-rows-requires : tie.Need-write-file-rows-requires Inv-loop μ-loop
@@ -156,5 +122,5 @@ returns c =
 pub write-rows-spec : {M : Type 1} → statement M
 write-rows-spec =
     tie.close
-    (tie.spec Inv-loop μ-loop loop-holds (λ c κs. search needs) (λ c. search needs) (λ c. search needs) shared-slice-read-place count-file-rows-requires add-end mul-write-file-rows
-    sub-write-file-rows part-write-file-rows-start part-write-file-rows-end write-file-rows-requires (λ c. search needs) loop-again (λ c. search needs) loop-again-2 same-length returns)
+    (tie.spec Inv-loop μ-loop loop-holds (λ c κs. search needs) (λ c. search needs) (λ c. search needs) shared-slice-read-place count-file-rows-requires add-end area-fits
+    (λ c. omega (arith, has-room c)) (λ c. omega (arith, has-room c)) has-room write-file-rows-requires (λ c. search needs) loop-again (λ c. search needs) loop-again-2 same-length returns)
