@@ -1,4 +1,5 @@
 -- Cases by computation: every definition is open, and each case is one equation of two booleans or of two lists.
+pub mod Names
 pub mod Sessions
 pub mod Diary
 pub mod Gap

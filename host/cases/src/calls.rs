@@ -1,6 +1,7 @@
 //! A case's call, made on the tables that it gives, and what came back against what it says.
 
 use crate::lending::{bytes_of, Lending};
+use cases::codes;
 use cases::runs::{Call, Runs, NAMES};
 use gukoremo::number::NAME_SIZE;
 use gukoremo::{raw, CatalogId, Counts, FileId, Outcome, SnapshotId, Uuid};
@@ -14,26 +15,26 @@ pub enum Played {
 /// A call's name in the cases.
 pub fn name(code: u64) -> &'static str {
     match code {
-        0 => "Fresh",
-        1 => "create schema",
-        2 => "create table",
-        3 => "insert",
-        4 => "delete",
-        6 => "drop schema",
-        7 => "drop table",
-        8 => "expiry",
-        9 => "cleanup",
-        10 => "schemas",
-        11 => "tables",
-        12 => "columns",
-        13 => "table by name",
-        14 => "files",
-        15 => "filtered files",
-        16 => "rows",
-        17 => "by time",
-        18 => "file lookup as a copy",
-        19 => "file lookup as a part",
-        20 => "path of a file, by gukoremo's own function",
+        codes::FRESH => "Fresh",
+        codes::CREATE_SCHEMA => "create schema",
+        codes::CREATE_TABLE => "create table",
+        codes::INSERT => "insert",
+        codes::DELETE => "delete",
+        codes::DROP_SCHEMA => "drop schema",
+        codes::DROP_TABLE => "drop table",
+        codes::EXPIRE => "expiry",
+        codes::CLEANUP => "cleanup",
+        codes::LIST_SCHEMAS => "schemas",
+        codes::LIST_TABLES => "tables",
+        codes::LIST_COLUMNS => "columns",
+        codes::TABLE_BY_NAME => "table by name",
+        codes::LIST_FILES => "files",
+        codes::LIST_FILTERED_FILES => "filtered files",
+        codes::LIST_ROWS => "rows",
+        codes::SNAPSHOT_BY_TIME => "by time",
+        codes::COPY_FILE => "file lookup as a copy",
+        codes::FIND_FILE => "file lookup as a part",
+        codes::PATH_OF_FILE => "path of a file, by gukoremo's own function",
         _ => "a call of no known code",
     }
 }
@@ -41,7 +42,7 @@ pub fn name(code: u64) -> &'static str {
 /// Why the cases of a call are not played.
 pub fn reason_unplayed(code: u64) -> Option<&'static str> {
     match code {
-        19 => Some("a reference can't cross the C boundary; the same lookup is played as a copy (docs/DECISIONS.md, R51 and R52)"),
+        codes::FIND_FILE => Some("a reference can't cross the C boundary; the same lookup is played as a copy (docs/DECISIONS.md, R51 and R52)"),
         _ => None,
     }
 }
@@ -69,30 +70,30 @@ fn make(call: &Call, lent: &mut Lending) -> Option<Outcome> {
     let uuid = |i: usize| Uuid { high: word(i), low: word(i + 1) };
     let (time, snapshot) = (word(0), SnapshotId(word(0)));
     Some(match call.code {
-        0 => lent.change(|t, c, area| raw::fresh(t, c, time, area)),
-        1 => lent.change(|t, c, area| raw::create_schema(t, c, time, &bytes_of(rest(1)), area)),
-        2 => {
+        codes::FRESH => lent.change(|t, c, area| raw::fresh(t, c, time, area)),
+        codes::CREATE_SCHEMA => lent.change(|t, c, area| raw::create_schema(t, c, time, &bytes_of(rest(1)), area)),
+        codes::CREATE_TABLE => {
             let (name, rest) = counted(rest(2));
             let (columns, rest) = counted(rest);
             let names = places_of(rest);
             lent.change(|t, c, area| raw::create_table(t, c, time, CatalogId(word(1)), &bytes_of(name), columns, &names, area))
         }
-        3 => lent.change(|t, c, area| raw::insert(t, c, time, CatalogId(word(1)), word(2), uuid(3), rest(5), area)),
-        4 => lent.change(|t, c, area| raw::delete(t, c, time, FileId(word(1)), uuid(2), rest(4), area)),
-        6 => lent.change(|t, c, area| raw::drop_schema(t, c, time, CatalogId(word(1)), area)),
-        7 => lent.change(|t, c, area| raw::drop_table(t, c, time, CatalogId(word(1)), area)),
-        8 => lent.change(|t, c, area| raw::expire(t, c, rest(1), time, area)),
-        9 => lent.change(|t, c, area| raw::cleanup(t, c, time, area)),
-        10 => lent.read(|t, c, area| raw::list_schemas(t, c, snapshot, area)),
-        11 => lent.read(|t, c, area| raw::list_tables(t, c, snapshot, CatalogId(word(1)), area)),
-        12 => lent.read(|t, c, area| raw::list_columns(t, c, snapshot, CatalogId(word(1)), area)),
-        13 => lent.read(|t, c, area| raw::table_by_name(t, c, snapshot, CatalogId(word(1)), &bytes_of(rest(2)), area)),
-        14 => lent.read(|t, c, area| raw::list_files(t, c, snapshot, CatalogId(word(1)), area)),
-        15 => lent.read(|t, c, area| raw::list_filtered_files(t, c, snapshot, CatalogId(word(1)), word(2), word(3), area)),
-        16 => lent.read(|t, c, area| raw::list_rows(t, c, snapshot, CatalogId(word(1)), area)),
-        17 => lent.read(|t, c, area| raw::snapshot_by_time(t, c, time, area)),
-        18 => lent.read(|t, c, area| raw::copy_file(t, c, FileId(word(0)), area)),
-        20 => lent.read(|_, counts, area| write_path(uuid(0), counts, area)),
+        codes::INSERT => lent.change(|t, c, area| raw::insert(t, c, time, CatalogId(word(1)), word(2), uuid(3), rest(5), area)),
+        codes::DELETE => lent.change(|t, c, area| raw::delete(t, c, time, FileId(word(1)), uuid(2), rest(4), area)),
+        codes::DROP_SCHEMA => lent.change(|t, c, area| raw::drop_schema(t, c, time, CatalogId(word(1)), area)),
+        codes::DROP_TABLE => lent.change(|t, c, area| raw::drop_table(t, c, time, CatalogId(word(1)), area)),
+        codes::EXPIRE => lent.change(|t, c, area| raw::expire(t, c, rest(1), time, area)),
+        codes::CLEANUP => lent.change(|t, c, area| raw::cleanup(t, c, time, area)),
+        codes::LIST_SCHEMAS => lent.read(|t, c, area| raw::list_schemas(t, c, snapshot, area)),
+        codes::LIST_TABLES => lent.read(|t, c, area| raw::list_tables(t, c, snapshot, CatalogId(word(1)), area)),
+        codes::LIST_COLUMNS => lent.read(|t, c, area| raw::list_columns(t, c, snapshot, CatalogId(word(1)), area)),
+        codes::TABLE_BY_NAME => lent.read(|t, c, area| raw::table_by_name(t, c, snapshot, CatalogId(word(1)), &bytes_of(rest(2)), area)),
+        codes::LIST_FILES => lent.read(|t, c, area| raw::list_files(t, c, snapshot, CatalogId(word(1)), area)),
+        codes::LIST_FILTERED_FILES => lent.read(|t, c, area| raw::list_filtered_files(t, c, snapshot, CatalogId(word(1)), word(2), word(3), area)),
+        codes::LIST_ROWS => lent.read(|t, c, area| raw::list_rows(t, c, snapshot, CatalogId(word(1)), area)),
+        codes::SNAPSHOT_BY_TIME => lent.read(|t, c, area| raw::snapshot_by_time(t, c, time, area)),
+        codes::COPY_FILE => lent.read(|t, c, area| raw::copy_file(t, c, FileId(word(0)), area)),
+        codes::PATH_OF_FILE => lent.read(|_, counts, area| write_path(uuid(0), counts, area)),
         _ => return None,
     })
 }

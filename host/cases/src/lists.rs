@@ -1,10 +1,14 @@
 //! The lists of lines, out of the files of the proofs.
 
+use crate::codes;
+use crate::names::{Module, Names, Value};
+use crate::terms::Reader;
 use std::collections::{BTreeMap, BTreeSet};
 use std::fs;
 use std::path::Path;
+use std::rc::Rc;
 
-/// A line of numbers, and where it stands in its file.
+/// A line as its words, and where it begins in its file.
 pub struct Line {
     pub number: usize,
     pub words: Vec<u64>,
@@ -25,18 +29,21 @@ pub struct Folder {
 }
 
 impl Folder {
-    /// Reads every file of the folder. Each list of lines has to be proved in Cases.antt, and each that is proved there has to be found.
+    /// Reads every file of the folder. Each list of lines has to be proved in Cases.antt, and each that is proved there
+    /// has to be found. Lines, runs and calls have to have the numbers in Names.antt that they have here.
     pub fn read(folder: &str) -> Result<Folder, String> {
         let mut files: Vec<_> = fs::read_dir(folder).map_err(|e| format!("{folder}: {e}"))?.flatten().map(|entry| entry.path()).collect();
         files.retain(|path| path.extension().is_some_and(|e| e == "antt"));
         files.sort();
+        let mut names = Names::around(folder)?;
+        check_codes(&mut names, folder)?;
         let mut lines = BTreeMap::new();
         let mut where_it_is = BTreeMap::new();
         let mut without_lines = Vec::new();
         for path in &files {
-            let file = path.display().to_string();
-            let text = fs::read_to_string(path).map_err(|e| format!("{file}: {e}"))?;
-            let found = lists_in(&text).map_err(|e| format!("{file}:{e}"))?;
+            let module = names.module(path)?;
+            let file = module.file.clone();
+            let found = lists_in(&mut names, &module)?;
             if found.is_empty() {
                 without_lines.push(file.clone());
             }
@@ -55,33 +62,53 @@ impl Folder {
     }
 }
 
-/// The lists of a file: `pub NAME : List (List ℕ)`, then `NAME =` and the lines.
-fn lists_in(text: &str) -> Result<Vec<(String, Vec<Line>)>, String> {
-    let mut found = Vec::new();
-    let mut rest = text.lines().enumerate();
-    while let Some((_, declared)) = rest.next() {
-        let Some(name) = declared.strip_suffix(" : List (List ℕ)").and_then(|front| front.strip_prefix("unfoldable pub ")) else { continue };
-        let mut lines = Vec::new();
-        for (at, line) in rest.by_ref() {
-            let line = line.trim();
-            if line == "∷ []" {
-                break;
-            }
-            if line == format!("{name} =") || line.starts_with("--") {
-                continue;
-            }
-            let words = words_of(line).ok_or_else(|| format!("{}: not a line of numbers: {line}", at + 1))?;
-            lines.push(Line { number: at + 1, words });
+/// The codes that are known here are those that Names.antt has.
+fn check_codes(names: &mut Names, folder: &str) -> Result<(), String> {
+    let module = names.module(&Path::new(folder).join("Names.antt"))?;
+    for (name, code) in codes::ALL {
+        let found = names.number(&module, name)?;
+        if found != *code {
+            return Err(format!("{}: {name} is {found}, and {code} is what it is known by", module.file));
         }
-        found.push((name.to_string(), lines));
     }
-    Ok(found)
+    Ok(())
 }
 
-/// The numbers of `∷ (5 ∷ 1 ∷ [])`, of which the first `∷` may be missing.
-fn words_of(line: &str) -> Option<Vec<u64>> {
-    let list = line.strip_prefix("∷ ").unwrap_or(line).strip_prefix('(')?.strip_suffix(" ∷ [])")?;
-    list.split(" ∷ ").map(|word| word.parse().ok()).collect()
+/// The lists of a file: those with the type of a list of lines.
+fn lists_in(names: &mut Names, module: &Rc<Module>) -> Result<Vec<(String, Vec<Line>)>, String> {
+    let declared = module.declared(" : List (List ℕ)");
+    declared.into_iter().map(|name| Ok((name.clone(), lines_of(names, module, &name)?))).collect()
+}
+
+/// The lines of `NAME = (..) ∷ (..) ∷ []`.
+fn lines_of(names: &mut Names, module: &Rc<Module>, name: &str) -> Result<Vec<Line>, String> {
+    let clauses = module.clauses(name)?.unwrap_or_default();
+    let [tokens] = &clauses[..] else { return Err(format!("{}: {name} is not one list", module.file)) };
+    let mut reader = Reader::new(tokens);
+    if !(reader.takes(name) && reader.takes("=")) {
+        return Err(format!("{}: {name} has arguments", module.file));
+    }
+    let mut lines = Vec::new();
+    while !reader.takes("[]") {
+        let number = reader.line().ok_or_else(|| format!("{}: {name} has no end", module.file))?;
+        let at = |how: String| format!("{}:{number}: {how}", module.file);
+        let term = reader.atom().ok_or_else(|| at("a line that can't be read".to_string()))?;
+        let words = words_of(names.value(module, &BTreeMap::new(), &term).map_err(at)?).ok_or_else(|| at("not a list of words".to_string()))?;
+        lines.push(Line { number, words });
+        if !reader.takes("∷") {
+            return Err(at(format!("no line comes after this one of {name}, nor its end")));
+        }
+    }
+    Ok(lines)
+}
+
+fn words_of(value: Value) -> Option<Vec<u64>> {
+    let Value::List(values) = value else { return None };
+    let word = |value| match value {
+        Value::Number(number) => u64::try_from(number).ok(),
+        Value::List(_) => None,
+    };
+    values.into_iter().map(word).collect()
 }
 
 /// What Cases.antt proves, `NAME : wrong STATE LIST ≡ []`, where a state is `start` or defined by `STATE = after STATE LIST`.

@@ -1,16 +1,16 @@
 //! The fourteen runs of a case, and what each line does to them: as Lines.antt has it.
 
+use crate::codes;
 use crate::lists::{Folder, Line, List};
 use gukoremo::number::NAME_SIZE;
 use gukoremo::record::{
     ColumnRecord, DataFileRecord, DeleteFileRecord, ScheduledRecord, SchemaRecord, SnapshotRecord, StatisticsRecord, TableRecord,
 };
 
-pub const COUNTS: usize = 9;
-pub const AREA: usize = 13;
+pub const COUNTS: usize = codes::COUNTS as usize;
+pub const AREA: usize = codes::ANSWER_AREA as usize;
 
-/// 0 snapshots, 1 schemas, 2 tables, 3 columns, 4 data files, 5 delete files, 6 positions, 7 statistics, 8 scheduled, 9 the used counts, 10 the names of
-/// schemas, 11 of tables, 12 of columns, 13 the answer area.
+/// In the order of their codes.
 pub type Runs = [Vec<u64>; 14];
 
 pub const NAMES: [&str; 14] = [
@@ -79,27 +79,27 @@ impl Case {
         let (run, record) = (word(1) as usize, word(2) as usize);
         let place = SIZES.get(run).unwrap_or(&0) * record + word(3) as usize;
         match word(0) {
-            0 => {
+            codes::LEND => {
                 let mut kept = self.kept.clone();
                 kept[run] = vec![word(4); place];
                 *self = Case::from(kept);
             }
-            1 => {
+            codes::FINDS_FIELD => {
                 write(&mut self.before[run], place, rest(4));
                 write(&mut self.after[run], place, rest(4));
             }
-            2 => {
+            codes::FINDS_ONLY => {
                 self.before[run].truncate(place);
                 self.after[run].truncate(place);
             }
-            3 => write(&mut self.after[run], place, rest(4)),
-            4 => {
+            codes::LEAVES_FIELD => write(&mut self.after[run], place, rest(4)),
+            codes::LEAVES => {
                 let size = *SIZES.get(run).unwrap_or(&0);
                 let mut words = rest(3).to_vec();
                 words.resize(words.len().max(size), 0);
                 write(&mut self.after[run], size * record, &words);
             }
-            5 => {
+            codes::CALL => {
                 let call = self.call(line);
                 *self = Case::from(self.kept.clone());
                 return Some(call);

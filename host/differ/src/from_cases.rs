@@ -4,6 +4,7 @@ use crate::play::{Pair, Played};
 use crate::runs::{self, FIRST_NAMES};
 use crate::script::Line;
 use crate::step::Step;
+use cases::codes;
 use cases::lists::{Folder, List};
 use cases::runs::{kept_before, Call as CaseCall, Case, AREA, COUNTS};
 use second::lent::NAME_SIZE;
@@ -83,29 +84,29 @@ fn step_of(call: &CaseCall) -> Option<Step> {
     let called = |call| Some(Step::Call(call));
     let read = |reading| Some(Step::Reading(reading));
     match call.code {
-        0 => called(Call::Fresh { time }),
-        1 => called(Call::CreateSchema { time, name: bytes(&rest(1)) }),
-        2 => {
+        codes::FRESH => called(Call::Fresh { time }),
+        codes::CREATE_SCHEMA => called(Call::CreateSchema { time, name: bytes(&rest(1)) }),
+        codes::CREATE_TABLE => {
             let arguments = rest(2);
             let (name, arguments) = counted(&arguments);
             let (columns, names) = counted(arguments);
             called(Call::CreateTable { time, schema: word(1), name: bytes(name), columns: columns.to_vec(), column_names: places(names) })
         }
-        3 => called(Call::Insert { time, table: word(1), record_count: word(2), uuid: (word(3), word(4)), statistics: rest(5) }),
-        4 => called(Call::Delete { time, data_file: word(1), uuid: (word(2), word(3)), positions: rest(4) }),
-        6 => called(Call::DropSchema { time, schema: word(1) }),
-        7 => called(Call::DropTable { time, table: word(1) }),
-        8 => called(Call::Expire { ids: rest(1), time }),
-        9 => called(Call::Cleanup { t: time }),
-        10 => read(Reading::Schemas { snapshot }),
-        11 => read(Reading::Tables { snapshot, schema: word(1) }),
-        12 => read(Reading::Columns { snapshot, table: word(1) }),
-        13 => read(Reading::TableByName { snapshot, schema: word(1), name: bytes(&rest(2)) }),
-        14 => read(Reading::Files { snapshot, table: word(1) }),
-        15 => read(Reading::FilteredFiles { snapshot, table: word(1), column: word(2), scalar: word(3) as i64 }),
-        16 => read(Reading::Rows { snapshot, table: word(1) }),
-        17 => read(Reading::ByTime { t: time }),
-        18 => read(Reading::FindFile { id: word(0) }),
+        codes::INSERT => called(Call::Insert { time, table: word(1), record_count: word(2), uuid: (word(3), word(4)), statistics: rest(5) }),
+        codes::DELETE => called(Call::Delete { time, data_file: word(1), uuid: (word(2), word(3)), positions: rest(4) }),
+        codes::DROP_SCHEMA => called(Call::DropSchema { time, schema: word(1) }),
+        codes::DROP_TABLE => called(Call::DropTable { time, table: word(1) }),
+        codes::EXPIRE => called(Call::Expire { ids: rest(1), time }),
+        codes::CLEANUP => called(Call::Cleanup { t: time }),
+        codes::LIST_SCHEMAS => read(Reading::Schemas { snapshot }),
+        codes::LIST_TABLES => read(Reading::Tables { snapshot, schema: word(1) }),
+        codes::LIST_COLUMNS => read(Reading::Columns { snapshot, table: word(1) }),
+        codes::TABLE_BY_NAME => read(Reading::TableByName { snapshot, schema: word(1), name: bytes(&rest(2)) }),
+        codes::LIST_FILES => read(Reading::Files { snapshot, table: word(1) }),
+        codes::LIST_FILTERED_FILES => read(Reading::FilteredFiles { snapshot, table: word(1), column: word(2), scalar: word(3) as i64 }),
+        codes::LIST_ROWS => read(Reading::Rows { snapshot, table: word(1) }),
+        codes::SNAPSHOT_BY_TIME => read(Reading::ByTime { t: time }),
+        codes::COPY_FILE => read(Reading::FindFile { id: word(0) }),
         _ => None,
     }
 }
