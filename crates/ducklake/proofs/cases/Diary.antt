@@ -10,11 +10,13 @@ use Rattle.layout.specs.declared.outcome.Counts.{Counts}
 use Rattle.layout.specs.Fields.{snapshotSize, schemaSize, tableSize, columnSize, dataFileSize, deleteFileSize, statisticsSize, scheduledSize}
 use Rattle.layout.specs.Records.{uuidOf}
 use Rattle.layout.specs.Catalog.{absent}
-use Rattle.layout.specs.Names.{nameSize}
+use Rattle.layout.specs.Names.{nameSize, padded}
 use Rattle.layout.specs.Words.{Words}
+use Rattle.ducklake.specs.Refusals.{accepted}
 use Rattle.ducklake.specs.Commits.{createTable, insert, delete, dropTable}
 use Rattle.ducklake.specs.Readings.{files, filteredFiles, rows}
 use Rattle.ducklake.specs.Calls.{Call, commitAt, expireSnapshots, cleanUp, performFresh, queryAt, byTime}
+use Rattle.ducklake.proofs.cases.Names.{int64, bytes, bounded, unbounded}
 use Rattle.ducklake.proofs.cases.Sessions.{Case, reads, calls, scheduled, passes, soundThroughout}
 
 -- runs of several lengths, ragged ones among them, that hold what they hold
@@ -54,15 +56,14 @@ area = replicate 6 9
 -- "110: table `diary` in schema 0, `item` int64 without nulls, `price` int64 with."
 create : Call
 create =
-    commitAt 110 (createTable 0 (100 ∷ 105 ∷ 97 ∷ 114 ∷ 121 ∷ []) (4 ∷ 0 ∷ 4 ∷ 1 ∷ [])
-    ((105 ∷ 116 ∷ 101 ∷ 109 ∷ replicate 28 0) ++ (112 ∷ 114 ∷ 105 ∷ 99 ∷ 101 ∷ replicate 27 0)))
+    commitAt 110 (createTable 0 (bytes "diary") (int64 ∷ 0 ∷ int64 ∷ 1 ∷ []) (padded (bytes "item") ++ padded (bytes "price")))
 
 -- "120: 3 rows, item 1 to 3, price 9 to 14, no nulls. 130: 2 rows, item 4 to 5, price 20 to 20, one null."
 insertThree : Call
-insertThree = commitAt 120 (insert 1 3 (uuidOf 0 1) (1 ∷ 0 ∷ 1 ∷ 1 ∷ 1 ∷ 3 ∷ 2 ∷ 0 ∷ 1 ∷ 1 ∷ 9 ∷ 14 ∷ []))
+insertThree = commitAt 120 (insert 1 3 (uuidOf 0 1) (bounded 1 0 1 3 ++ bounded 2 0 9 14))
 
 insertTwo : Call
-insertTwo = commitAt 130 (insert 1 2 (uuidOf 0 2) (1 ∷ 0 ∷ 1 ∷ 1 ∷ 4 ∷ 5 ∷ 2 ∷ 1 ∷ 1 ∷ 1 ∷ 20 ∷ 20 ∷ []))
+insertTwo = commitAt 130 (insert 1 2 (uuidOf 0 2) (bounded 1 0 4 5 ++ bounded 2 1 20 20))
 
 -- "140: delete position 1 of file 0. 150: delete position 0 of file 0."
 deleteOne : Call
@@ -84,10 +85,10 @@ toEnd =
     to160 ++ (cleanUp 160 ∷ cleanUp 161 ∷ commitAt 170 (dropTable 1) ∷ expireSnapshots (0 ∷ 1 ∷ 2 ∷ 3 ∷ 5 ∷ []) 180 ∷ [])
 
 rowsAt : ℕ → List ℕ → Case
-rowsAt s words = record { session = to150; probe = reads (queryAt s (rows 1)); number = 0; words = words }
+rowsAt s words = record { session = to150; probe = reads (queryAt s (rows 1)); number = accepted; words = words }
 
 priceIs : ℕ → List ℕ → Case
-priceIs price words = record { session = to150; probe = reads (queryAt 5 (filteredFiles 1 2 (pos price))); number = 0; words = words }
+priceIs price words = record { session = to150; probe = reads (queryAt 5 (filteredFiles 1 2 (pos price))); number = accepted; words = words }
 
 marked : List Case
 marked =
@@ -102,13 +103,13 @@ marked =
     ∷ priceIs 15 []
     ∷ priceIs 20 (1 ∷ absent ∷ [])
     -- "M by time 119: 1"
-    ∷ record { session = to150; probe = reads (byTime 119); number = 0; words = 1 ∷ [] }
+    ∷ record { session = to150; probe = reads (byTime 119); number = accepted; words = 1 ∷ [] }
     -- "M expire 4 at 160: delete file 2 is scheduled; M cleanup 160: nothing; M cleanup 161: file 2."
-    ∷ record { session = to160; probe = scheduled; number = 0; words = 2 ∷ 160 ∷ [] }
-    ∷ record { session = to160; probe = calls (cleanUp 160); number = 0; words = [] }
-    ∷ record { session = to160; probe = calls (cleanUp 161); number = 0; words = 2 ∷ 0 ∷ 3 ∷ [] }
+    ∷ record { session = to160; probe = scheduled; number = accepted; words = 2 ∷ 160 ∷ [] }
+    ∷ record { session = to160; probe = calls (cleanUp 160); number = accepted; words = [] }
+    ∷ record { session = to160; probe = calls (cleanUp 161); number = accepted; words = 2 ∷ 0 ∷ 3 ∷ [] }
     -- "M expire 0 1 2 3 5 then schedules 0, 1, 3."
-    ∷ record { session = toEnd; probe = scheduled; number = 0; words = 0 ∷ 180 ∷ 1 ∷ 180 ∷ 3 ∷ 180 ∷ [] }
+    ∷ record { session = toEnd; probe = scheduled; number = accepted; words = 0 ∷ 180 ∷ 1 ∷ 180 ∷ 3 ∷ 180 ∷ [] }
     ∷ []
 
 -- "Misreadings seen": cases that tell them apart, where the marked ones don't
@@ -116,16 +117,16 @@ misread : List Case
 misread =
     -- "Reusing ids after expiry.": a file inserted after the cleanup of file 2 is file 4
     record {
-      session = to160 ++ (cleanUp 161 ∷ commitAt 165 (insert 1 1 (uuidOf 0 5) (1 ∷ 0 ∷ 0 ∷ 0 ∷ 0 ∷ 0 ∷ 2 ∷ 1 ∷ 0 ∷ 0 ∷ 0 ∷ 0 ∷ [])) ∷ []);
+      session = to160 ++ (cleanUp 161 ∷ commitAt 165 (insert 1 1 (uuidOf 0 5) (unbounded 1 0 ++ unbounded 2 1)) ∷ []);
       probe = reads (queryAt 6 (files 1));
-      number = 0;
+      number = accepted;
       words = 0 ∷ 3 ∷ 1 ∷ absent ∷ 4 ∷ absent ∷ [];
     }
     -- "Scheduling by end alone, though an older snapshot is retained.": the dropped table's files are still listed at 5
     ∷ record {
       session = to160 ++ (commitAt 170 (dropTable 1) ∷ expireSnapshots (0 ∷ 1 ∷ 2 ∷ 3 ∷ []) 175 ∷ []);
       probe = scheduled;
-      number = 0;
+      number = accepted;
       words = 2 ∷ 160 ∷ [];
     }
     ∷ []

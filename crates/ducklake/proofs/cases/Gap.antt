@@ -10,9 +10,12 @@ use Rattle.layout.specs.Records.{uuidOf}
 use Rattle.layout.specs.Catalog.{absent, Snapshot, Catalog}
 use Rattle.layout.specs.Names.{nameSize, padded}
 use Rattle.layout.specs.Words.{Words, store, countsOf}
+use Rattle.ducklake.specs.Refusals.{accepted}
+use Rattle.ducklake.specs.Kinds.{createdSchema, insertedIntoTable, deletedFromTable}
 use Rattle.ducklake.specs.Soundness.{sound}
 use Rattle.ducklake.specs.Commits.{delete}
 use Rattle.ducklake.specs.Calls.{commitAt, Result, perform, noCounts}
+use Rattle.ducklake.proofs.cases.Names.{int64, bytes}
 use Rattle.ducklake.proofs.cases.Sessions.{passes}
 
 snapshot : ℕ → ℕ → ℕ → Snapshot
@@ -20,10 +23,10 @@ snapshot id nextFileId kind = record { id = id; time = 0; schemaVersion = 1; nex
 
 gap : Catalog
 gap = record {
-  snapshots = snapshot 1 1 3 ∷ snapshot 2 2 4 ∷ snapshot 3 2 1 ∷ [];
-  schemas = record { id = 0; begin = 1; end = absent; body = record { name = padded (109 ∷ []) } } ∷ [];
-  tables = record { id = 1; begin = 1; end = absent; body = record { schema = 0; nextRowId = 3; name = padded (116 ∷ []) } } ∷ [];
-  columns = record { id = 1; begin = 1; end = absent; body = record { table = 1; order = 0; typeCode = 4; nullsAllowed = 1; name = padded (99 ∷ []) } } ∷ [];
+  snapshots = snapshot 1 1 insertedIntoTable ∷ snapshot 2 2 deletedFromTable ∷ snapshot 3 2 createdSchema ∷ [];
+  schemas = record { id = 0; begin = 1; end = absent; body = record { name = padded (bytes "m") } } ∷ [];
+  tables = record { id = 1; begin = 1; end = absent; body = record { schema = 0; nextRowId = 3; name = padded (bytes "t") } } ∷ [];
+  columns = record { id = 1; begin = 1; end = absent; body = record { table = 1; order = 0; typeCode = int64; nullsAllowed = 1; name = padded (bytes "c") } } ∷ [];
   dataFiles = record { id = 0; begin = 1; end = absent; body = record { table = 1; recordCount = 3; rowIdStart = 0; uuid = uuidOf 0 1 } } ∷ [];
   deleteFiles = record { id = 1; begin = 2; end = 3; body = record { table = 1; dataFile = 0; positions = 0 ∷ []; uuid = uuidOf 0 2 } } ∷ [];
   statistics = record { dataFile = 0; column = 1; nullCount = 0; hasMin = 0; hasMax = 0; min = 0; max = 0 } ∷ [];
@@ -56,7 +59,7 @@ sound-before : sound tables (countsOf gap) ≡ true
 unfolding snapshot gap lent tables passes
 sound-before = refl
 
-delete-accepted : deleted .number ≡ 0
+delete-accepted : deleted .number ≡ accepted
 unfolding snapshot gap lent tables deleted passes
 delete-accepted = refl
 

@@ -8,12 +8,13 @@ use lib.ListN.{replicate}
 use Rattle.lists.specs.Lists.{agree}
 use Rattle.layout.specs.Fields.{snapshotSize, schemaSize, tableSize, columnSize, dataFileSize, deleteFileSize, statisticsSize, scheduledSize}
 use Rattle.layout.specs.Records.{uuidOf}
-use Rattle.layout.specs.Names.{nameSize}
+use Rattle.layout.specs.Names.{nameSize, padded}
 use Rattle.layout.specs.Words.{Words}
 use Rattle.ducklake.specs.Calls.{Call, commitAt, expireSnapshots, cleanUp, noCounts}
 use Rattle.ducklake.specs.Commits.{createTable, insert, dropTable}
 use Rattle.ducklake.specs.Journal.{emptyJournal, journaled}
 use Rattle.ducklake.specs.Claim.{Step, State, isRetained, readingOf, isListed, fallenBetween, run, step, freshState, whenMade}
+use Rattle.ducklake.proofs.cases.Names.{int64, bytes, unbounded}
 use Rattle.ducklake.proofs.cases.Sessions.{passes}
 use Rattle.ducklake.proofs.cases.Diary.{area, toEnd}
 
@@ -66,8 +67,8 @@ made = refl
 -- a table with one file, dropped; then every snapshot that lists the file expires at 7, and a cleanup hands it out
 short : List Call
 short =
-    commitAt 101 (createTable 0 (116 ∷ []) (4 ∷ 0 ∷ []) (116 ∷ replicate 31 0))
-    ∷ commitAt 102 (insert 1 1 (uuidOf 0 1) (1 ∷ 0 ∷ 0 ∷ 0 ∷ 0 ∷ 0 ∷ []))
+    commitAt 101 (createTable 0 (bytes "t") (int64 ∷ 0 ∷ []) (padded (bytes "t")))
+    ∷ commitAt 102 (insert 1 1 (uuidOf 0 1) (unbounded 1 0))
     ∷ commitAt 103 (dropTable 1)
     ∷ []
 

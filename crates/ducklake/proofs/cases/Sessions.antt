@@ -12,6 +12,7 @@ use Rattle.layout.specs.Names.{namedThenZero, isName, isNameArgument, padded, s
 use Rattle.layout.specs.Types.{types, isType, inType}
 use Rattle.layout.specs.Words.{Words, positionsBefore, load, store, countsOf, capacity, within, fits}
 use Rattle.ducklake.specs.Kinds.{isKind, raisesSchemaVersion}
+use Rattle.ducklake.specs.Refusals.{accepted}
 use Rattle.ducklake.specs.Liveness.{live, liveAtSome, retained, schemasAt, tablesAt, columnsAt, dataFilesAt, deleteFilesAt, deletedAt, isLive, columnLive, tableOfId, dataFileOfId}
 use Rattle.ducklake.specs.Soundness.{uuidsOfFiles, idsOfFiles, isRecordCount, snapshotInRange, schemaInRange, tableInRange, columnInRange, dataFileInRange, deleteFileInRange, statisticsInRange, scheduledInRange, fieldsInRange, follows, snapshotsRise, lifeSound, livesSound, byTableAndId, byFileAndColumn, idsAscend, sameUuid, idsBelowNext, filesDistinct, holds, sameLife, tableNests, columnNests, dataFileNests, deleteFileNests, livesNest, overlap, schemasApart, tablesApart, columnsApart, namesApart, succeededBy, deleteFilesApart, positionsSound, deletesSound, rowsBefore, rowsInTable, rowRangesSound, boundFits, statisticsFit, fileStatistics, statisticsWanted, fileStatisticsSound, statisticsOnFile, statisticsSound, columnCountSound, columnCountsSound, soundCatalog, sound}
 use Rattle.ducklake.specs.Arguments.{clashes, newColumns, columnsFit, newStatistics, statisticsArgumentFits, positionsFit, expiryListFits}
@@ -44,7 +45,7 @@ module _ (time : ℕ) (lent : Words) (given : Counts) (area : List ℕ) where
   asked r (calls k) = perform k (r .words) (r .counts) area
   asked r scheduled =
       let xs : List ℕ = flatMap (λ x. x .file ∷ x .start ∷ []) (load (r .words) (r .counts) .scheduled) in
-      record { number = 0; place = r .place; length = length xs; counts = r .counts; words = r .words; area = xs }
+      record { number = accepted; place = r .place; length = length xs; counts = r .counts; words = r .words; area = xs }
 
   -- whether a case is true
   unfoldable pub passes : Case → Bool
@@ -56,5 +57,5 @@ module _ (time : ℕ) (lent : Words) (given : Counts) (area : List ℕ) where
   -- whether each call of a session is accepted and leaves sound tables
   unfoldable pub soundThroughout : Result → List Call → Bool
   unfolding passes
-  soundThroughout r [] = eqb (r .number) 0 && sound (r .words) (r .counts)
-  soundThroughout r (k ∷ ks) = eqb (r .number) 0 && sound (r .words) (r .counts) && soundThroughout (perform k (r .words) (r .counts) area) ks
+  soundThroughout r [] = eqb (r .number) accepted && sound (r .words) (r .counts)
+  soundThroughout r (k ∷ ks) = eqb (r .number) accepted && sound (r .words) (r .counts) && soundThroughout (perform k (r .words) (r .counts) area) ks
