@@ -1,4 +1,4 @@
-.PHONY: test edits run library fuzz bench costs
+.PHONY: test edits run library fuzz bench costs check-times
 
 # Provers at a time, where none is asked for: twice as many as processors, since the crates of a level wait for its last, and at most one for each 4 GiB.
 ifndef RT_JOBS
@@ -37,3 +37,8 @@ bench: library
 costs: library
 	@sh host/packages && cargo build --release --offline --quiet --target-dir target/host --manifest-path host/differ/Cargo.toml
 	@target/host/release/differ costs
+
+# The table of docs/CHECK-TIMES.md, 'What a check costs', measured here.
+check-times: library
+	@sh host/packages && cargo build --release --offline --quiet --target-dir target/host --manifest-path host/differ/Cargo.toml
+	@target/host/release/differ check-times

@@ -16,3 +16,4 @@ pub mod Maintenance
 pub mod Sound
 pub mod SoundFields
 pub mod Cases
+pub mod soundness

@@ -2,11 +2,12 @@
 //! tables, of the answer area, and of what lies beside them.
 //!
 //! The files are read as they stand. Which list goes on from which is read in Cases.antt, where each is proved of the definitions; the format is
-//! described in Lines.antt.
+//! described in Lines.antt. The cases of soundness/ come before them, and go to the check alone.
 #![forbid(unsafe_code)]
 
 mod calls;
 mod lending;
+mod soundness;
 
 use calls::Played;
 use cases::lists::Folder;
@@ -26,12 +27,20 @@ fn main() -> ExitCode {
         eprintln!("usage: cases FOLDER");
         return ExitCode::from(2);
     };
+    let sound = soundness::play(&folder);
+    match &sound {
+        Ok(said) | Err(said) => println!("{said}"),
+    }
     match Folder::read(&folder) {
         Err(error) => {
             eprintln!("cases: {error}");
             ExitCode::from(2)
         }
-        Ok(folder) => play(&folder),
+        Ok(folder) if sound.is_ok() => play(&folder),
+        Ok(folder) => {
+            play(&folder);
+            ExitCode::FAILURE
+        }
     }
 }
 

@@ -4,8 +4,11 @@
 mod bench;
 mod call_words;
 mod catalogue;
+mod check_limits;
+mod check_passes;
 mod choices;
 mod conformance;
+mod contents;
 mod costs;
 mod from_cases;
 mod fuzz;
@@ -38,6 +41,8 @@ const USAGE: &str = "usage:
   differ published COUNT         the published queries on SQLite, for so many random catalogues
   differ bench [CALL ..]         the table of docs/BENCHMARKS.md: times of the calls, as ratios
   differ costs                   the table of docs/CHECK-TIMES.md: what each call costs beyond the check, in plain passes
+  differ check-limits            what the check says of tables at the limits and one past them, from both implementations
+  differ check-times             the table of docs/CHECK-TIMES.md: what a check costs on each content, in plain passes
   differ stack                   what each call takes of the stack; fails above 1 MiB";
 
 fn main() -> ExitCode {
@@ -54,6 +59,8 @@ fn main() -> ExitCode {
         ["published", count] => published::run(count),
         ["bench", ref calls @ ..] => bench::run(calls),
         ["costs"] => costs::run(),
+        ["check-limits"] => check_limits::run(),
+        ["check-times"] => check_passes::run(),
         ["stack"] => stack::run(),
         _ => Err(USAGE.to_string()),
     };

@@ -102,22 +102,7 @@ impl Proved {
     }
 
     fn view(&self) -> TablesView<'_> {
-        let [snapshots, schemas, tables, columns, data_files, delete_files, positions, statistics, scheduled] = self.words.each_ref().map(Lent::run);
-        let [schema_names, table_names, column_names] = self.names.each_ref().map(Lent::run);
-        TablesView {
-            snapshots,
-            schemas,
-            schema_names,
-            tables,
-            table_names,
-            columns,
-            column_names,
-            data_files,
-            delete_files,
-            positions,
-            statistics,
-            scheduled,
-        }
+        view(self.words.each_ref().map(Lent::run), self.names.each_ref().map(Lent::run))
     }
 
     /// The answer area lent between margins for a call, and given back as it was left.
@@ -264,6 +249,30 @@ impl Catalogue for Proved {
     fn each_word(&self, take: &mut dyn FnMut(u64)) {
         self.words.iter().flat_map(Lent::run).for_each(|word| take(*word));
         self.names.iter().flat_map(Lent::run).for_each(|byte| take(u64::from(*byte)));
+    }
+}
+
+/// The compiled check on runs that lie anywhere: which line of 'Sound tables' fails first, or 0.
+pub fn first_unsound(words: [&[u64]; 9], names: [&[u8]; 3], counts: &Counts) -> u64 {
+    raw::first_unsound(view(words, names), counts_to(counts))
+}
+
+fn view<'a>(words: [&'a [u64]; 9], names: [&'a [u8]; 3]) -> TablesView<'a> {
+    let [snapshots, schemas, tables, columns, data_files, delete_files, positions, statistics, scheduled] = words;
+    let [schema_names, table_names, column_names] = names;
+    TablesView {
+        snapshots,
+        schemas,
+        schema_names,
+        tables,
+        table_names,
+        columns,
+        column_names,
+        data_files,
+        delete_files,
+        positions,
+        statistics,
+        scheduled,
     }
 }
 
