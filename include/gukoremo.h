@@ -208,6 +208,11 @@ typedef struct {
     uint64_t low;
 } gukoremo_uuid;
 
+/* What a commit is made under: its time. */
+typedef struct {
+    uint64_t time;
+} gukoremo_terms;
+
 /* "A catalogue record, passed in and handed back by value, says how many records of each table are used." */
 typedef struct {
     size_t snapshots;
@@ -404,14 +409,14 @@ typedef struct {
 #define GUKOREMO_AREA uint64_t *area, size_t area_length
 
 gukoremo_outcome catalog_fresh(GUKOREMO_CHANGED, uint64_t time, GUKOREMO_AREA);
-gukoremo_outcome catalog_create_schema(GUKOREMO_CHANGED, uint64_t time, const uint8_t *name, size_t name_length, GUKOREMO_AREA);
-gukoremo_outcome catalog_drop_schema(GUKOREMO_CHANGED, uint64_t time, gukoremo_catalog_id schema, GUKOREMO_AREA);
-gukoremo_outcome catalog_create_table(GUKOREMO_CHANGED, uint64_t time, gukoremo_catalog_id schema, const uint8_t *name, size_t name_length,
+gukoremo_outcome catalog_create_schema(GUKOREMO_CHANGED, gukoremo_terms terms, const uint8_t *name, size_t name_length, GUKOREMO_AREA);
+gukoremo_outcome catalog_drop_schema(GUKOREMO_CHANGED, gukoremo_terms terms, gukoremo_catalog_id schema, GUKOREMO_AREA);
+gukoremo_outcome catalog_create_table(GUKOREMO_CHANGED, gukoremo_terms terms, gukoremo_catalog_id schema, const uint8_t *name, size_t name_length,
     const uint64_t *new_columns, size_t new_columns_length, const uint8_t *new_names, size_t new_names_length, GUKOREMO_AREA);
-gukoremo_outcome catalog_drop_table(GUKOREMO_CHANGED, uint64_t time, gukoremo_catalog_id table, GUKOREMO_AREA);
-gukoremo_outcome catalog_insert(GUKOREMO_CHANGED, uint64_t time, gukoremo_catalog_id table, uint64_t record_count, gukoremo_uuid uuid,
+gukoremo_outcome catalog_drop_table(GUKOREMO_CHANGED, gukoremo_terms terms, gukoremo_catalog_id table, GUKOREMO_AREA);
+gukoremo_outcome catalog_insert(GUKOREMO_CHANGED, gukoremo_terms terms, gukoremo_catalog_id table, uint64_t record_count, gukoremo_uuid uuid,
     const uint64_t *new_statistics, size_t new_statistics_length, GUKOREMO_AREA);
-gukoremo_outcome catalog_delete(GUKOREMO_CHANGED, uint64_t time, gukoremo_file_id data_file, gukoremo_uuid uuid, const uint64_t *new_positions,
+gukoremo_outcome catalog_delete(GUKOREMO_CHANGED, gukoremo_terms terms, gukoremo_file_id data_file, gukoremo_uuid uuid, const uint64_t *new_positions,
     size_t new_positions_length, GUKOREMO_AREA);
 gukoremo_outcome catalog_expire(GUKOREMO_CHANGED, const uint64_t *ids, size_t ids_length, uint64_t time, GUKOREMO_AREA);
 gukoremo_outcome catalog_cleanup(GUKOREMO_CHANGED, uint64_t t, GUKOREMO_AREA);
@@ -460,6 +465,14 @@ static inline uint8_t *gukoremo_no_bytes(void)
         GUKOREMO_WORDS((runs)->scheduled.at, (runs)->scheduled.length)
 #define GUKOREMO_NO_AREA gukoremo_no_words(), 0
 
+/* The terms of a commit at a time. */
+static inline gukoremo_terms gukoremo_at(uint64_t time)
+{
+    gukoremo_terms terms;
+    terms.time = time;
+    return terms;
+}
+
 /* The calls. Each has the runs, the counts that the call before handed back, and its own arguments. Commits, expiry and Fresh have no answer. The refusals
  * that a call can give stand in the order in which they are judged. */
 
@@ -474,14 +487,14 @@ static inline gukoremo_outcome gukoremo_fresh(const gukoremo_tables *runs, gukor
 static inline gukoremo_outcome gukoremo_create_schema(
     const gukoremo_tables *runs, gukoremo_counts counts, uint64_t time, const char *name, size_t name_length)
 {
-    return catalog_create_schema(GUKOREMO_LENT(runs), counts, time, GUKOREMO_NAME(name, name_length), GUKOREMO_NO_AREA);
+    return catalog_create_schema(GUKOREMO_LENT(runs), counts, gukoremo_at(time), GUKOREMO_NAME(name, name_length), GUKOREMO_NO_AREA);
 }
 
 /* Drop schema, "only if no table in it is live". Writes a snapshot, and the schema's end. Refused with 1, 6, 8, 11, 4, 2. */
 static inline gukoremo_outcome gukoremo_drop_schema(
     const gukoremo_tables *runs, gukoremo_counts counts, uint64_t time, gukoremo_catalog_id schema)
 {
-    return catalog_drop_schema(GUKOREMO_LENT(runs), counts, time, schema, GUKOREMO_NO_AREA);
+    return catalog_drop_schema(GUKOREMO_LENT(runs), counts, gukoremo_at(time), schema, GUKOREMO_NO_AREA);
 }
 
 /* Create table. For each column GUKOREMO_COLUMN_ARGUMENT_SIZE words in new_columns and a place of GUKOREMO_NAME_SIZE bytes in new_names; columns get ids 1, 2,
@@ -490,14 +503,14 @@ static inline gukoremo_outcome gukoremo_drop_schema(
 static inline gukoremo_outcome gukoremo_create_table(const gukoremo_tables *runs, gukoremo_counts counts, uint64_t time, gukoremo_catalog_id schema,
     const char *name, size_t name_length, const uint64_t *new_columns, size_t new_columns_length, const char *new_names, size_t new_names_length)
 {
-    return catalog_create_table(GUKOREMO_LENT(runs), counts, time, schema, GUKOREMO_NAME(name, name_length),
+    return catalog_create_table(GUKOREMO_LENT(runs), counts, gukoremo_at(time), schema, GUKOREMO_NAME(name, name_length),
         GUKOREMO_WORDS(new_columns, new_columns_length), GUKOREMO_NAME(new_names, new_names_length), GUKOREMO_NO_AREA);
 }
 
 /* Drop table. Writes a snapshot, and the ends of the table and of its live columns, data files and delete files. Refused with 1, 6, 8, 4, 2. */
 static inline gukoremo_outcome gukoremo_drop_table(const gukoremo_tables *runs, gukoremo_counts counts, uint64_t time, gukoremo_catalog_id table)
 {
-    return catalog_drop_table(GUKOREMO_LENT(runs), counts, time, table, GUKOREMO_NO_AREA);
+    return catalog_drop_table(GUKOREMO_LENT(runs), counts, gukoremo_at(time), table, GUKOREMO_NO_AREA);
 }
 
 /* Insert: a data file of so many rows, with GUKOREMO_STATISTICS_ARGUMENT_SIZE words for each live column of the table, by ascending id. The new file's id
@@ -506,7 +519,7 @@ static inline gukoremo_outcome gukoremo_drop_table(const gukoremo_tables *runs, 
 static inline gukoremo_outcome gukoremo_insert(const gukoremo_tables *runs, gukoremo_counts counts, uint64_t time, gukoremo_catalog_id table,
     uint64_t record_count, gukoremo_uuid uuid, const uint64_t *new_statistics, size_t new_statistics_length)
 {
-    return catalog_insert(GUKOREMO_LENT(runs), counts, time, table, record_count, uuid, GUKOREMO_WORDS(new_statistics, new_statistics_length),
+    return catalog_insert(GUKOREMO_LENT(runs), counts, gukoremo_at(time), table, record_count, uuid, GUKOREMO_WORDS(new_statistics, new_statistics_length),
         GUKOREMO_NO_AREA);
 }
 
@@ -516,7 +529,7 @@ static inline gukoremo_outcome gukoremo_delete(const gukoremo_tables *runs, guko
     gukoremo_uuid uuid, const uint64_t *new_positions, size_t new_positions_length)
 {
     return catalog_delete(
-        GUKOREMO_LENT(runs), counts, time, data_file, uuid, GUKOREMO_WORDS(new_positions, new_positions_length), GUKOREMO_NO_AREA);
+        GUKOREMO_LENT(runs), counts, gukoremo_at(time), data_file, uuid, GUKOREMO_WORDS(new_positions, new_positions_length), GUKOREMO_NO_AREA);
 }
 
 /* Expiry of these snapshots, by ascending id: they go, and every record that no retained snapshot shows; the files among those are scheduled with the

@@ -12,8 +12,7 @@ use Rattle.layout.specs.Catalog.{Catalog}
 use Rattle.layout.specs.Words.{countsOf}
 use Rattle.ducklake.specs.Liveness.{latest, latestId, deletedAt}
 use Rattle.ducklake.specs.Arguments.{columnArguments, newColumns, statisticsArguments, newStatistics}
-use Rattle.ducklake.specs.Commits.{born, createSchema, createTable, insert, delete, dropTable, dropSchema, changeOf, newDataFileId}
-use Rattle.call_laws.specs.Additions.{additions}
+use Rattle.ducklake.specs.Commits.{born, createSchema, createTable, insert, delete, dropTable, dropSchema, changeOf, newDataFileId, additions}
 
 born-length : {A : Type 0} (n k : ℕ) (xs : List A) → length (born n k xs) ≡ length xs
 born-length n k [] = refl
@@ -30,12 +29,12 @@ statistics-length dataFile words = length-map (range 0 (statisticsArguments word
 module _ (C : Catalog) (time : ℕ) where
   pub create-schema-adds : (name : List ℕ) → countsOf (additions C (changeOf C time (createSchema name)))
       ≡ record { snapshots = 1; schemas = 1; tables = 0; columns = 0; «data_files» = 0; «delete_files» = 0; positions = 0; statistics = 0; scheduled = 0 }
-  unfolding changeOf additions countsOf sum
+  unfolding changeOf countsOf sum
   create-schema-adds name = refl
 
   pub create-table-adds : (schema : ℕ) (name words names : List ℕ) → countsOf (additions C (changeOf C time (createTable schema name words names)))
       ≡ record { snapshots = 1; schemas = 0; tables = 1; columns = columnArguments words; «data_files» = 0; «delete_files» = 0; positions = 0; statistics = 0; scheduled = 0 }
-  unfolding changeOf additions countsOf sum
+  unfolding changeOf countsOf sum
   create-table-adds schema name words names = λ i. record {
     snapshots = 1;
     schemas = 0;
@@ -50,7 +49,7 @@ module _ (C : Catalog) (time : ℕ) where
 
   pub insert-adds : (table rows : ℕ) (uuid : Uuid) (statistics : List ℕ) → countsOf (additions C (changeOf C time (insert table rows uuid statistics)))
       ≡ record { snapshots = 1; schemas = 0; tables = 0; columns = 0; «data_files» = 1; «delete_files» = 0; positions = 0; statistics = statisticsArguments statistics; scheduled = 0 }
-  unfolding changeOf additions countsOf sum
+  unfolding changeOf countsOf sum
   insert-adds table rows uuid statistics = λ i. record {
     snapshots = 1;
     schemas = 0;
@@ -75,7 +74,7 @@ module _ (C : Catalog) (time : ℕ) where
         statistics = 0;
         scheduled = 0;
       }
-  unfolding changeOf additions countsOf sum
+  unfolding changeOf countsOf sum
   delete-adds dataFile uuid positions = λ i. record {
     snapshots = 1;
     schemas = 0;
@@ -90,10 +89,10 @@ module _ (C : Catalog) (time : ℕ) where
 
   pub drop-table-adds : (table : ℕ) → countsOf (additions C (changeOf C time (dropTable table)))
       ≡ record { snapshots = 1; schemas = 0; tables = 0; columns = 0; «data_files» = 0; «delete_files» = 0; positions = 0; statistics = 0; scheduled = 0 }
-  unfolding changeOf additions countsOf sum
+  unfolding changeOf countsOf sum
   drop-table-adds table = refl
 
   pub drop-schema-adds : (schema : ℕ) → countsOf (additions C (changeOf C time (dropSchema schema)))
       ≡ record { snapshots = 1; schemas = 0; tables = 0; columns = 0; «data_files» = 0; «delete_files» = 0; positions = 0; statistics = 0; scheduled = 0 }
-  unfolding changeOf additions countsOf sum
+  unfolding changeOf countsOf sum
   drop-schema-adds schema = refl

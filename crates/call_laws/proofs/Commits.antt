@@ -1,33 +1,30 @@
 -- The counts and the numbers of a commit: its counts are those in use and those of what it adds, since records that end or gain rows stay.
 use Prim.Native.Nat.{ℕ, suc, _+_}
 use mathlib.Core.Path.{_≡_, refl, sym, ap, ap₂, _∙_}
-use mathlib.Core.Bool.{Bool, true, cond, _&&_, and-true}
+use mathlib.Core.Bool.{true, cond, _&&_, and-true}
 use mathlib.Core.List.{List, [], _∷_, _++_, map}
 use native.Mathlib.Omega.{arith}
 use native.Mathlib.Nat.{add-zero, zero-add}
-use native.Mathlib.Numerals.{add-one}
 use lib.Dec.{eqb}
 use lib.ListN.{length, length-append, length-map}
 use borrow.Author.Tests.{eqb-true, eq-eqb, le-leb}
-use Rattle.lists.specs.Lists.{all, bit, sum}
+use Rattle.lists.specs.Lists.{all, sum}
 use Rattle.lists.proofs.Tests.{if, same-test}
 use Rattle.lists.proofs.Members.{in-all, all-in}
 use Rattle.lists.proofs.Selections.{map-append, map-map}
 use Rattle.layout.specs.declared.outcome.Counts.{Counts}
+use Rattle.layout.specs.declared.outcome.Terms.{Terms}
 use Rattle.layout.specs.declared.record.Uuid.{Uuid}
 use Rattle.layout.specs.Catalog.{numberLimit, Versioned, Snapshot, Table, Catalog}
 use Rattle.layout.specs.Words.{Words, load, store, countsOf, capacity, within, fits}
 use Rattle.call_laws.specs.Writes.{addCounts}
 use Rattle.layout.proofs.Room.{Held, held}
 use Rattle.layout.proofs.RoundTrip.{counts-load}
-use Rattle.ducklake.specs.Kinds.{raisesSchemaVersion}
 use Rattle.ducklake.specs.Liveness.{latest, latestId, isLive, tableOfId}
 use Rattle.ducklake.specs.Soundness.{inLimit, snapshotInRange}
-use Rattle.ducklake.specs.Commits.{Change, Commit, insert, close, grow, nextSnapshot, commit, changeOf, numbersFit}
+use Rattle.ducklake.specs.Commits.{Change, Commit, insert, close, grow, nextSnapshot, commit, changeOf, numbersFit, additions, following}
 use Rattle.ducklake.specs.Refusals.{accepted}
 use Rattle.ducklake.specs.Calls.{commitAt, effect, answer, hasRoom, refusal, perform, Promise}
-use Rattle.call_laws.specs.Additions.{additions}
-use Rattle.call_laws.specs.Latest.{following}
 use Rattle.ducklake.proofs.facts.Facts.{Sound}
 use Rattle.ducklake.proofs.commits.Deletes.{same-id, Found, table-found}
 use Rattle.call_laws.proofs.Promises.{outcome, promise-stored}
@@ -52,7 +49,7 @@ module _ {A : Type 0} (f : A → A) (xs ys : List A) where
       same (z ∷ zs) = ap₂ _∷_ (e z) (same zs)
 
 counts-step : (C : Catalog) (d : Change) → countsOf (commit C d) ≡ addCounts (countsOf C) (countsOf (additions C d))
-unfolding countsOf commit additions addCounts close grow
+unfolding countsOf commit addCounts close grow
 counts-step C d = λ i. record {
   snapshots = length-append (C .snapshots) (nextSnapshot C d ∷ []) i;
   schemas = step-length (close (suc (latestId C)) (d .ends .schema)) (C .schemas) (additions C d .schemas) i;
@@ -75,21 +72,7 @@ module _ (w : Words) (c : Counts) (h : fits w c ≡ true) (d : Change) where
 pub next-is : (C : Catalog) (d : Change) (l : Snapshot) (a b : ℕ) → l ≡ latest C → a ≡ length (d .added .schemas) + length (d .added .tables)
     → b ≡ length (d .added .deleteFiles) + length (d .added .dataFiles) → following l (d .time) (d .kind) (d .object) a b ≡ nextSnapshot C d
 unfolding nextSnapshot
-next-is C d l a b e p q = λ i. record {
-  id = (add-one (l .id) ∙ ap (λ (s : Snapshot). suc (s .id)) e) i;
-  time = d .time;
-  schemaVersion = ap (λ (s : Snapshot). s .schemaVersion + bit (raisesSchemaVersion (d .kind))) e i;
-  nextCatalogId = catalog i;
-  nextFileId = file i;
-  kind = d .kind;
-  object = d .object;
-}
-  where
-    catalog : l .nextCatalogId + a ≡ latest C .nextCatalogId + length (d .added .schemas) + length (d .added .tables)
-    catalog = omega (arith, ap (λ (s : Snapshot). s .nextCatalogId) e)
-
-    file : l .nextFileId + b ≡ latest C .nextFileId + length (d .added .deleteFiles) + length (d .added .dataFiles)
-    file = omega (arith, ap (λ (s : Snapshot). s .nextFileId) e)
+next-is C d l a b e p q = rw (e, p, q) refl
 
 -- those of a commit that adds no rows are those of its snapshot
 pub numbers-still : (C : Catalog) (d : Change) {s : Snapshot} → s ≡ nextSnapshot C d → ((t : Versioned Table) → d .rows t ≡ 0)
@@ -101,26 +84,21 @@ numbers-still C d e z h =
 
 -- The counts after a commit, and its room
 
-module _ (w : Words) (c : Counts) (h : fits w c ≡ true) (time : ℕ) (k : Commit) {added : Counts} (e : countsOf (additions (load w c) (changeOf (load w c) time k)) ≡ added) where
-  pub counts-after : addCounts c added ≡ countsOf (effect (load w c) (commitAt time k))
+module _ (w : Words) (c : Counts) (h : fits w c ≡ true) (terms : Terms) (k : Commit) {added : Counts} (e : countsOf (additions (load w c) (changeOf (load w c) (terms .time) k)) ≡ added) where
+  pub counts-after : addCounts c added ≡ countsOf (effect (load w c) (commitAt terms k))
   unfolding effect
-  counts-after = sym (counts-commit w c h (changeOf (load w c) time k) ∙ ap (addCounts c) e)
-
-  -- 2, by the counts after it
-  pub room-after : {b : Bool} {a : Counts} → b ≡ within a (capacity w) → a ≡ addCounts c added → b ≡ hasRoom w (effect (load w c) (commitAt time k))
-  unfolding hasRoom
-  room-after p q = p ∙ ap (λ (x : Counts). within x (capacity w)) (q ∙ counts-after)
+  counts-after = sym (counts-commit w c h (changeOf (load w c) (terms .time) k) ∙ ap (addCounts c) e)
 
   -- where there is room for it the runs hold the counts after it
-  pub held-after : hasRoom w (effect (load w c) (commitAt time k)) ≡ true → Held w (addCounts c added)
+  pub held-after : hasRoom w (effect (load w c) (commitAt terms k)) ≡ true → Held w (addCounts c added)
   unfolding hasRoom
   held-after r = held w (addCounts c added) (ap (λ (x : Counts). within x (capacity w)) counts-after ∙ r)
 
   -- the promise of an accepted commit: its counts are those in use and those that it adds
-  pub promise-commit : (area : List ℕ) {n : ℕ} {c′ : Counts} {w′ : Words} {area′ : List ℕ} → n ≡ refusal w c (length area) (commitAt time k) → n ≡ 0 → c′ ≡ addCounts c added
-      → w′ ≡ store w c (effect (load w c) (commitAt time k)) → area′ ≡ area → Promise (perform (commitAt time k) w c area) (outcome accepted 0 0 c′) w′ area′
+  pub promise-commit : (area : List ℕ) {n : ℕ} {c′ : Counts} {w′ : Words} {area′ : List ℕ} → n ≡ refusal w c (length area) (commitAt terms k) → n ≡ 0 → c′ ≡ addCounts c added
+      → w′ ≡ store w c (effect (load w c) (commitAt terms k)) → area′ ≡ area → Promise (perform (commitAt terms k) w c area) (outcome accepted 0 0 c′) w′ area′
   unfolding answer
-  promise-commit area n z q r s = promise-stored (commitAt time k) w c area n z refl (q ∙ counts-after) r s
+  promise-commit area n z q r s = promise-stored (commitAt terms k) w c area n z refl (q ∙ counts-after) r s
 
 -- of an insert also the row number that its table moves on to: ids ascend, so it is the one table of that id
 pub numbers-insert : (C : Catalog) → Sound C → (time table rows : ℕ) (uuid : Uuid) (statistics : List ℕ) {s : Snapshot} {n : ℕ}

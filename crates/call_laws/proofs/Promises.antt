@@ -1,4 +1,4 @@
--- The promise of a call, a reading and Fresh, refused and accepted: from equations over the number, the place, the counts, the words and the area.
+-- The promise of a call and of Fresh, refused and accepted: from equations over the number, the place, the counts, the words and the area.
 use Prim.Native.Nat.{ℕ}
 use mathlib.Core.Path.{_≡_, refl, sym, _∙_}
 use mathlib.Core.Bool.{true, false}
@@ -12,7 +12,7 @@ use Rattle.layout.specs.declared.outcome.Outcome.{Outcome}
 use Rattle.layout.specs.Words.{Words, load, store, countsOf}
 use Rattle.ducklake.specs.Refusals.{accepted, noRoom}
 use Rattle.ducklake.specs.Commits.{freshCatalog}
-use Rattle.ducklake.specs.Calls.{Call, effect, answer, hasRoom, refusal, placeZero, placeOf, refused, stored, perform, noCounts, performFresh, Reading, readingAnswer, readingRefusal, performReading, Result, Promise}
+use Rattle.ducklake.specs.Calls.{Call, effect, answer, hasRoom, refusal, placeZero, placeOf, refused, stored, perform, noCounts, performFresh, Promise}
 
 -- An outcome
 abbrev pub outcome : ℕ → ℕ → ℕ → Counts → Outcome
@@ -45,34 +45,6 @@ module _ (k : Call) (w : Words) (c : Counts) (area : List ℕ) {n : ℕ} (e : n 
       → c′ ≡ countsOf (effect (load w c) k) → w′ ≡ store w c (effect (load w c) k) → area′ ≡ area
       → Promise (perform k w c area) (outcome accepted 0 0 c′) w′ area′
   promise-stored z a q r s = promise-accepted z (rw a refl) q r (rw a (s ∙ sym (overwrite-none area 0)))
-
--- Readings
-
-module _ (r : Reading) (w : Words) (c : Counts) (area : List ℕ) {n : ℕ} (e : n ≡ readingRefusal w c (length area) r) where
-  reading-refused : (n ≡ 0 → ⊥) → performReading r w c area ≡ refused n placeZero w c area
-  unfolding performReading
-  reading-refused z = rw (← e, ne-eqb n 0 z) refl
-
-  abbrev answered : Result
-  answered = record {
-    number = accepted;
-    place = placeZero;
-    length = length (readingAnswer (load w c) r);
-    counts = c;
-    words = w;
-    area = overwrite area 0 (readingAnswer (load w c) r);
-  }
-
-  reading-accepted : n ≡ 0 → performReading r w c area ≡ answered
-  unfolding performReading
-  reading-accepted z = rw (← e, z) refl
-
-  pub promise-reading-refused : {w′ : Words} {area′ : List ℕ} → (n ≡ 0 → ⊥) → w′ ≡ w → area′ ≡ area → Promise (performReading r w c area) (outcome n 0 0 c) w′ area′
-  promise-reading-refused z p q = rw (reading-refused z) (record { number = refl; place = refl; length = refl; counts = refl; words = p; area = q })
-
-  pub promise-reading-accepted : {l : ℕ} {w′ : Words} {area′ : List ℕ} → n ≡ 0 → l ≡ length (readingAnswer (load w c) r) → w′ ≡ w
-      → area′ ≡ overwrite area 0 (readingAnswer (load w c) r) → Promise (performReading r w c area) (outcome accepted 0 l c) w′ area′
-  promise-reading-accepted z p q s = rw (reading-accepted z) (record { number = refl; place = refl; length = p; counts = refl; words = q; area = s })
 
 -- Fresh
 

@@ -8,8 +8,8 @@ use native.Mathlib.Omega.{arith}
 use lib.Dec.{leb, ltb, eqb}
 use lib.ListN.{length}
 use borrow.Author.Tests.{eqb-true, ltb-true, le-leb}
-use Rattle.lists.specs.Lists.{range, all, any, pairwise, chained, before}
-use Rattle.lists.specs.Runs.{at, field, fields, pairs}
+use Rattle.lists.specs.Lists.{range, all, any, pairwise, chained}
+use Rattle.lists.specs.Runs.{at, field, fields}
 use Rattle.lists.proofs.Tests.{Reflects, either, both, reflects-as, reflects-and, reflects-or, reflects-leb, reflects-ltb, reflects-eqb, reflects-it}
 use Rattle.lists.proofs.Members.{In, each, Any, in-all, in-map, range-in, any-in}
 use Rattle.lists.proofs.Selections.{any-true, filter-one}
@@ -20,15 +20,16 @@ use Rattle.layout.specs.Fields.{snapshotSize, snapshotIdWord, snapshotTimeWord,
 use Rattle.layout.specs.Catalog.{absent, numberLimit, recordCountLimit, Versioned, Snapshot, Schema, Table, Column, DataFile, DeleteFile, Statistics, Scheduled}
 use Rattle.layout.specs.Names.{nameSize, isName}
 use Rattle.layout.specs.Types.{isType}
-use Rattle.layout.specs.Words.{Words, load, fits, positionsBefore, positionsAt, snapshotAt, tableAt, columnAt, dataFileAt, deleteFileAt, snapshotsIn, schemasIn, tablesIn, columnsIn, dataFilesIn, deleteFilesIn, statisticsIn, scheduledIn}
+use Rattle.layout.specs.Words.{Words, load, capacity, within, fits, positionsBefore, positionsAt, snapshotAt, tableAt, columnAt, dataFileAt, deleteFileAt, snapshotsIn, schemasIn, tablesIn, columnsIn, dataFilesIn, deleteFilesIn, statisticsIn, scheduledIn}
 use Rattle.layout.proofs.Room.{Within, Held, fitting}
 use Rattle.layout.proofs.RoundTrip.{Named}
 use Rattle.call_laws.proofs.Stores.{limits, within-limits}
 use Rattle.ducklake.specs.Kinds.{isKind}
 use Rattle.ducklake.specs.Liveness.{live, latestOf, deleteFilesAt}
-use Rattle.ducklake.specs.Soundness.{inLimit, isRecordCount, snapshotInRange, schemaInRange, tableInRange, columnInRange, dataFileInRange, deleteFileInRange, statisticsInRange, scheduledInRange, fieldsInRange, follows, snapshotsRise, lifeSound, livesSound, byId, byTableAndId, byFileAndColumn, idsAscend, idsBelowNext, filesDistinct, namesApart, tableNests, columnNests, dataFileNests, deleteFileNests, livesNest, deleteFilesApart, positionsSound, deletesSound, rowsBefore, rowsInTable, rowRangesSound, fileStatisticsSound, statisticsOnFile, statisticsSound, columnCountSound, columnCountsSound, soundCatalog, sound}
+use Rattle.ducklake.specs.Soundness.{inLimit, isRecordCount, snapshotInRange, schemaInRange, tableInRange, columnInRange, dataFileInRange, deleteFileInRange, statisticsInRange, scheduledInRange, fieldsInRange, follows, snapshotsRise, byId, byTableAndId, byFileAndColumn, idsAscend, deleteFilesApart, positionsSound, deletesSound, soundLines, positionsAddUp, sound}
 use Rattle.call_laws.specs.Latest.{HasLatest}
-use Rattle.ducklake.proofs.facts.Facts.{Sound, reflects-sound, DeleteFilesApart}
+use Rattle.ducklake.proofs.facts.Facts.{Sound, sound-lines, reflects-sound, DeleteFilesApart}
+use Rattle.ducklake.proofs.facts.Needs.{AllPassed}
 use Rattle.ducklake.proofs.commits.Moves.{SmallSnapshot, reflects-small, latest-small}
 use Rattle.call_laws.proofs.Ids.{schema-ids, table-ids, data-file-ids, delete-file-ids, column-order, statistics-order, snapshot-ids, snapshot-times}
 
@@ -137,41 +138,16 @@ module _ (w : Words) (c : Counts) where
     pub snapshotTimes : chained leb (fields snapshotSize snapshotTimeWord (w .snapshots) (c .snapshots)) ≡ true
     pub schemaIds : chained ltb (fields schemaSize schemaIdWord (w .schemas) (c .schemas)) ≡ true
     pub tableIds : chained ltb (fields tableSize tableIdWord (w .tables) (c .tables)) ≡ true
-    pub columnPairs : chained before (pairs columnSize columnTableWord columnIdWord (w .columns) (c .columns)) ≡ true
     pub columnTables : chained leb (fields columnSize columnTableWord (w .columns) (c .columns)) ≡ true
     pub dataFileIds : chained ltb (fields dataFileSize dataFileIdWord (w .dataFiles) (c .«data_files»)) ≡ true
     pub deleteFileIds : chained ltb (fields deleteFileSize deleteFileIdWord (w .deleteFiles) (c .«delete_files»)) ≡ true
-    pub statisticsPairs : chained before (pairs statisticsSize statisticsDataFileWord statisticsColumnWord (w .statistics) (c .statistics)) ≡ true
     pub statisticsFiles : chained leb (fields statisticsSize statisticsDataFileWord (w .statistics) (c .statistics)) ≡ true
     -- every field in its range
-    pub snapshotRanges : all snapshotInRange ns ≡ true
-    pub schemaRanges : all schemaInRange ss ≡ true
     pub tableRanges : all tableInRange ts ≡ true
     pub columnRanges : all columnInRange cs ≡ true
-    pub dataFileRanges : all dataFileInRange fs ≡ true
-    pub deleteFileRanges : all deleteFileInRange ds ≡ true
-    pub statisticsRanges : all statisticsInRange qs ≡ true
-    pub scheduledRanges : all scheduledInRange xs ≡ true
     pub nextRowIds : all (λ t. inLimit (t .body .nextRowId)) ts ≡ true
-    -- lives, and lives within lives
-    pub schemaLives : all (lifeSound ns) ss ≡ true
-    pub tableLives : all (lifeSound ns) ts ≡ true
-    pub columnLives : all (lifeSound ns) cs ≡ true
-    pub dataFileLives : all (lifeSound ns) fs ≡ true
-    pub deleteFileLives : all (lifeSound ns) ds ≡ true
-    pub tablesNest : all (tableNests ss) ts ≡ true
-    pub columnsNest : all (columnNests ts) cs ≡ true
-    pub dataFilesNest : all (dataFileNests ts) fs ≡ true
-    pub deleteFilesNest : all (deleteFileNests fs) ds ≡ true
     -- delete files and their positions
-    pub deleteFilesApart : pairwise deleteFilesApart ds ≡ true
     pub positionsSound : all (positionsSound fs) ds ≡ true
-    -- row ranges, statistics, column counts
-    pub rowsBefore : pairwise rowsBefore fs ≡ true
-    pub rowsInTable : all (rowsInTable ts) fs ≡ true
-    pub fileStatistics : all (fileStatisticsSound cs qs) fs ≡ true
-    pub statisticsOnFile : all (statisticsOnFile fs) qs ≡ true
-    pub columnCounts : all (λ n. all (columnCountSound cs (n .id)) ts) ns ≡ true
 
 -- the tests of soundness one by one
 module _ (w : Words) (c : Counts) (f : fits w c ≡ true) (S : Sound (load w c)) where
@@ -209,32 +185,20 @@ abbrev it : (b : Bool) → Reflects b (b ≡ true)
 it = reflects-it
 
 pub ready : (w : Words) (c : Counts) → sound w c ≡ true → Ready w c
-unfolding sound soundCatalog load fieldsInRange snapshotsRise livesSound idsAscend livesNest deletesSound rowRangesSound statisticsSound columnCountsSound
+unfolding load fieldsInRange snapshotsRise idsAscend deletesSound
 ready w c h =
-    let t = both (fits w c) (soundCatalog (load w c)) h in
-    let S = reflects-sound (load w c) .to (t .1) in
-    let p = (
-    (it (all snapshotInRange (ns w c)) & it (all schemaInRange (ss w c)) & it (all tableInRange (ts w c)) & it (all columnInRange (cs w c))
-    & it (all dataFileInRange (fs w c)) & it (all deleteFileInRange (ds w c)) & it (all statisticsInRange (qs w c)) & it (all scheduledInRange (xs w c)))
-    & (it (any (λ n. true) (ns w c)) & it (chained follows (ns w c)) & it (all (λ n. isKind (n .kind) && ltb (n .object) (latestOf (ns w c) .nextCatalogId)) (ns w c)))
-    & (it (all (lifeSound (ns w c)) (ss w c)) & it (all (lifeSound (ns w c)) (ts w c)) & it (all (lifeSound (ns w c)) (cs w c)) & it (all (lifeSound (ns w c)) (fs w c)) & it (all (lifeSound (ns w c)) (ds w c)))
-    & (it (chained byId (ss w c)) & it (chained byId (ts w c)) & it (chained byId (fs w c)) & it (chained byId (ds w c)) & it (chained byTableAndId (cs w c)) & it (chained byFileAndColumn (qs w c)))
-    & it (idsBelowNext (load w c))
-    & it (filesDistinct (load w c))
-    & (it (all (tableNests (ss w c)) (ts w c)) & it (all (columnNests (ts w c)) (cs w c)) & it (all (dataFileNests (ts w c)) (fs w c)) & it (all (deleteFileNests (fs w c)) (ds w c)))
-    & it (namesApart (load w c))
-    & (it (pairwise deleteFilesApart (ds w c)) & it (all (positionsSound (fs w c)) (ds w c)))
-    & (it (pairwise rowsBefore (fs w c)) & it (all (rowsInTable (ts w c)) (fs w c)))
-    & (it (all (fileStatisticsSound (cs w c) (qs w c)) (fs w c)) & it (all (statisticsOnFile (fs w c)) (qs w c)))
-    & it (all (λ n. all (columnCountSound (cs w c) (n .id)) (ts w c)) (ns w c))
-    ) .to (t .1) in
-    let ranges = p .0 .0 .0 .0 .0 .0 .0 .0 .0 .0 .0 in
-    let rise = p .0 .0 .0 .0 .0 .0 .0 .0 .0 .0 .1 in
-    let lives = p .0 .0 .0 .0 .0 .0 .0 .0 .0 .1 in
-    let ids = p .0 .0 .0 .0 .0 .0 .0 .0 .1 in
-    let nests = p .0 .0 .0 .0 .0 .1 in
-    let deletes = p .0 .0 .0 .1 in
-    let rows = p .0 .0 .1 in
+    let t = reflects-sound w c .to h in
+    let S : Sound (load w c) = t .1 in
+    let p : AllPassed (soundLines w c) = sound-lines w c h in
+    let ranges =
+    (it (all snapshotInRange (ns w c)) & it (all schemaInRange (ss w c)) & it (all tableInRange (ts w c)) & it (all columnInRange (cs w c)) & it (all dataFileInRange (fs w c))
+    & it (all deleteFileInRange (ds w c)) & it (all statisticsInRange (qs w c)) & it (all scheduledInRange (xs w c))) .to (both (within c (capacity w)) (fieldsInRange (load w c)) (p 1) .1) in
+    let rise =
+    (it (any (λ n. true) (ns w c)) & it (chained follows (ns w c)) & it (all (λ n. isKind (n .kind) && ltb (n .object) (latestOf (ns w c) .nextCatalogId)) (ns w c))) .to (p 2) in
+    let ids =
+    (it (chained byId (ss w c)) & it (chained byId (ts w c)) & it (chained byId (fs w c)) & it (chained byId (ds w c)) & it (chained byTableAndId (cs w c)) & it (chained byFileAndColumn (qs w c))) .to (p 4) in
+    let deletes =
+    (it (pairwise deleteFilesApart (ds w c)) & it (all (positionsSound (fs w c)) (ds w c))) .to (both (positionsAddUp w c) (deletesSound (load w c)) (p 8) .1) in
     let columns = sym (column-order (w .columns) (w .columnNames) (c .columns)) ∙ ids .0 .1 in
     let statistics = sym (statistics-order (w .statistics) (c .statistics)) ∙ ids .1 in
     record {
@@ -250,37 +214,14 @@ ready w c h =
       snapshotTimes = snapshot-times (w .snapshots) (c .snapshots) (rise .0 .1);
       schemaIds = sym (schema-ids (w .schemas) (w .schemaNames) (c .schemas)) ∙ ids .0 .0 .0 .0 .0;
       tableIds = sym (table-ids (w .tables) (w .tableNames) (c .tables)) ∙ ids .0 .0 .0 .0 .1;
-      columnPairs = columns;
       columnTables = pairs-first columnSize columnTableWord columnIdWord (w .columns) (c .columns) columns;
       dataFileIds = sym (data-file-ids (w .dataFiles) (c .«data_files»)) ∙ ids .0 .0 .0 .1;
       deleteFileIds = sym (delete-file-ids (w .deleteFiles) (w .positions) (c .«delete_files»)) ∙ ids .0 .0 .1;
-      statisticsPairs = statistics;
       statisticsFiles = pairs-first statisticsSize statisticsDataFileWord statisticsColumnWord (w .statistics) (c .statistics) statistics;
-      snapshotRanges = ranges .0 .0 .0 .0 .0 .0 .0;
-      schemaRanges = ranges .0 .0 .0 .0 .0 .0 .1;
       tableRanges = ranges .0 .0 .0 .0 .0 .1;
       columnRanges = ranges .0 .0 .0 .0 .1;
-      dataFileRanges = ranges .0 .0 .0 .1;
-      deleteFileRanges = ranges .0 .0 .1;
-      statisticsRanges = ranges .0 .1;
-      scheduledRanges = ranges .1;
       nextRowIds = next-row-ids w c (t .0) S;
-      schemaLives = lives .0 .0 .0 .0;
-      tableLives = lives .0 .0 .0 .1;
-      columnLives = lives .0 .0 .1;
-      dataFileLives = lives .0 .1;
-      deleteFileLives = lives .1;
-      tablesNest = nests .0 .0 .0;
-      columnsNest = nests .0 .0 .1;
-      dataFilesNest = nests .0 .1;
-      deleteFilesNest = nests .1;
-      deleteFilesApart = deletes .0;
       positionsSound = deletes .1;
-      rowsBefore = rows .0;
-      rowsInTable = rows .1;
-      fileStatistics = p .0 .1 .0;
-      statisticsOnFile = p .0 .1 .1;
-      columnCounts = p .1;
     }
 
 -- At a place, or of a file
@@ -298,20 +239,11 @@ positions-parts gs d h =
     & it (any (λ f. eqb (f .id) (d .body .dataFile) && all (λ p. ltb p (f .body .recordCount)) (d .body .positions)) gs)) .to h
 
 module _ {w : Words} {c : Counts} (R : Ready w c) where
-  pub snapshot-small : (i : ℕ) → i < c .snapshots → SmallSnapshot (snapshotAt (w .snapshots) i)
-  snapshot-small i h = reflects-small _ .to (all-at (snapshotAt (w .snapshots)) snapshotInRange (c .snapshots) i (R .snapshotRanges) h)
-
   pub table-small : (i : ℕ) → i < c .tables → SmallTable (tableAt (w .tables) (w .tableNames) i)
   table-small i h = reflects-table _ .to (all-at (tableAt (w .tables) (w .tableNames)) tableInRange (c .tables) i (R .tableRanges) h)
 
   pub column-small : (i : ℕ) → i < c .columns → SmallColumn (columnAt (w .columns) (w .columnNames) i)
   column-small i h = reflects-column _ .to (all-at (columnAt (w .columns) (w .columnNames)) columnInRange (c .columns) i (R .columnRanges) h)
-
-  pub data-file-small : (i : ℕ) → i < c .«data_files» → SmallDataFile (dataFileAt (w .dataFiles) i)
-  data-file-small i h = reflects-dataFile _ .to (all-at (dataFileAt (w .dataFiles)) dataFileInRange (c .«data_files») i (R .dataFileRanges) h)
-
-  pub delete-file-small : (i : ℕ) → i < c .«delete_files» → SmallDeleteFile (deleteFileAt (w .deleteFiles) (w .positions) i)
-  delete-file-small i h = reflects-deleteFile _ .to (all-at (deleteFileAt (w .deleteFiles) (w .positions)) deleteFileInRange (c .«delete_files») i (R .deleteFileRanges) h)
 
   -- "two delete files of one data file have no common live number": none or one is live at a number
   pub one-delete-file : (s k : ℕ) → (deleteFilesAt (ds w c) s k ≡ [])
@@ -340,9 +272,6 @@ module _ {w : Words} {c : Counts} (R : Ready w c) where
         × (any (λ f. eqb (f .id) (deleteFileAt (w .deleteFiles) (w .positions) j .body .dataFile) && all (λ p. ltb p (f .body .recordCount)) (positionsAt (w .deleteFiles) (w .positions) j)) (fs w c) ≡ true)
     parts = positions-parts (fs w c) (deleteFileAt (w .deleteFiles) (w .positions) j)
         (all-at (deleteFileAt (w .deleteFiles) (w .positions)) (positionsSound (fs w c)) (c .«delete_files») j (R .positionsSound) h)
-
-    pub positions-some : any (λ p. true) (positionsAt (w .deleteFiles) (w .positions) j) ≡ true
-    positions-some = parts .0 .0
 
     pub positions-ascend : chained ltb (positionsAt (w .deleteFiles) (w .positions) j) ≡ true
     positions-ascend = parts .0 .1

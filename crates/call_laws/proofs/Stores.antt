@@ -2,17 +2,18 @@
 -- words of its records are, and the laws of records added, changed and removed are said once for all runs.
 use Prim.Native.Nat.{ℕ, _+_, _*_, _-_, _≤_, max}
 use mathlib.Core.Path.{_≡_, refl, sym, ap, ap₂, _∙_}
-use mathlib.Core.Bool.{Bool, true}
+use mathlib.Core.Bool.{Bool, true, false, cond, _&&_}
 use mathlib.Core.List.{List, map, flatMap, _++_}
 use native.Mathlib.Omega.{arith}
 use native.Mathlib.Nat.{zero-add}
-use lib.ListN.{length, take, length-append, length-map}
+use lib.Dec.{eqb}
+use lib.ListN.{length, take, getD, set, length-append, length-map}
 use Rattle.lists.specs.Lists.{range, filter}
-use Rattle.lists.specs.Runs.{Layout, at, table, overwrite, replace}
+use Rattle.lists.specs.Runs.{Layout, at, table, overwrite, replace, setWhere, eachRecord}
 use Rattle.lists.proofs.Tests.{both}
 use Rattle.lists.proofs.Members.{In, in-range}
-use Rattle.lists.proofs.Selections.{flatMap-append, flatMap-map, map-append, map-map, map-map-ext}
-use Rattle.lists.proofs.Runs.{overwrite-over, replace-more, replace-kept, record-fits}
+use Rattle.lists.proofs.Selections.{flatMap-append, flatMap-map, map-append}
+use Rattle.lists.proofs.Runs.{overwrite-over, replace-more, replace-kept, replace-same, record-fits}
 use Rattle.lists.proofs.Layouts.{Lawful, words-of-length, words-at}
 use Rattle.lists.proofs.Loops.{length-range}
 use Rattle.lists.specs.Pieces.{Pieces, piece, rowPieces, Compacted}
@@ -29,9 +30,10 @@ use Rattle.layout.specs.declared.record.StatisticsRecord.{StatisticsRecord}
 use Rattle.layout.specs.declared.record.ScheduledRecord.{ScheduledRecord}
 use Rattle.layout.specs.Names.{nameSize}
 use Rattle.layout.specs.Records.{snapshotLayout, schemaLayout, tableLayout, columnLayout, dataFileLayout, deleteFileLayout, statisticsLayout, scheduledLayout}
-use Rattle.layout.specs.Catalog.{Versioned, Snapshot, Schema, Table, Column, DataFile, DeleteFile, Statistics, Scheduled, Catalog, snapshotRecord, schemaRecord, tableRecord, columnRecord, dataFileRecord, deleteFileRecord, statisticsRecord, scheduledRecord}
+use Rattle.layout.specs.Catalog.{absent, Versioned, Snapshot, Schema, Table, Column, DataFile, DeleteFile, Statistics, Scheduled, Catalog, snapshotRecord, schemaRecord, tableRecord, columnRecord, dataFileRecord, deleteFileRecord, statisticsRecord, scheduledRecord}
 use Rattle.layout.specs.Words.{Words, load, storeTable, store, snapshotAt, schemaAt, tableAt, columnAt, dataFileAt, deleteFileAt, statisticsAt, scheduledAt, positionPieces, tableLimit, positionLimit, countsOf, capacity, within, fits}
-use Rattle.call_laws.specs.Writes.{rewriteTable, extendTable}
+use Rattle.ducklake.specs.Commits.{close}
+use Rattle.call_laws.specs.Writes.{extendTable}
 use Rattle.layout.proofs.Records.{snapshot-lawful, schema-lawful, table-lawful, column-lawful, dataFile-lawful, deleteFile-lawful, statistics-lawful, scheduled-lawful}
 use Rattle.layout.proofs.Room.{Within, reflects-within, fitting}
 use Rattle.layout.proofs.RoundTrip.{counts-load}
@@ -145,10 +147,6 @@ module _ {A X : Type 0} (T : StoredTable A X) where
   }
 
   module _ (w : Words) (c : Counts) (h : fits w c ≡ true) where
-    -- the loaded records are those of the run
-    pub rows-loaded : map (T .row) (T .records (load w c)) ≡ table (T .layout) (T .run w) (T .count c)
-    rows-loaded = ap (map (T .row)) (T .loaded w c) ∙ map-map-ext (at (T .layout) (T .run w)) (T .row) (T .place w) (range 0 (T .count c)) (T .row-is w c h)
-
     pub table-same : (C : Catalog) → T .records C ≡ T .records (load w c) → T .run w ≡ T .run (store w c C)
     table-same = records-same tableRun w c h
 
@@ -157,27 +155,63 @@ module _ {A X : Type 0} (T : StoredTable A X) where
         → extendTable (T .layout) (T .run w) (T .count c) (map (T .row) ys) ≡ T .run (store w c C)
     table-more C ys e = ap (overwrite (T .run w) (T .layout .size * T .count c)) (row-words ys) ∙ records-more tableRun w c h C ys e
 
-    -- records changed in their places, then records behind them: k changes what a record means, g the record
-    module _ (C : Catalog) (k : X → X) (g : A → A) (s : (x : X) → T .row (k x) ≡ g (T .row x)) where
-      rows-changed : map (T .row) (map k (T .records (load w c))) ≡ map g (table (T .layout) (T .run w) (T .count c))
-      rows-changed =
-          map-map (T .row) k (T .records (load w c))
-          ∙ (sym (map-map-ext (λ x. T .row (k x)) g (T .row) (T .records (load w c)) (λ x m. sym (s x))) ∙ ap (map g) rows-loaded)
+    -- records changed in their places, then records behind them: k changes what a record means, g its words
+    module _ (C : Catalog) (k : X → X) (g : List ℕ → List ℕ) (s : (x : X) → T .layout .words (T .row (k x)) ≡ g (T .layout .words (T .row x))) where
+      changed : List ℕ
+      changed = flatMap (T .layout .words) (map (T .row) (map k (T .records (load w c))))
 
-      pub table-rewritten : T .records C ≡ map k (T .records (load w c)) → rewriteTable (T .layout) (T .run w) (T .count c) g ≡ T .run (store w c C)
-      table-rewritten e = sym (T .stored w c C ∙ ap (storeTable (T .layout) (T .run w) (T .count c)) (ap (map (T .row)) e ∙ rows-changed))
+      changed-length : length changed ≡ T .layout .size * T .count c
+      unfolding changed
+      changed-length = rw (words-of-length (T .layout) (T .lawful), length-map, length-map, T .loaded w c, length-map, length-range) refl
 
-      pub table-rewritten-more : (ys : List X) → T .records C ≡ map k (T .records (load w c)) ++ ys
-          → extendTable (T .layout) (rewriteTable (T .layout) (T .run w) (T .count c) g) (T .count c) (map (T .row) ys) ≡ T .run (store w c C)
-      table-rewritten-more ys e = sym (
-          T .stored w c C
-          ∙ (ap (storeTable (T .layout) (T .run w) (T .count c)) (ap (map (T .row)) e ∙ (map-append (T .row) (map k (T .records (load w c))) ys ∙ ap (λ rs. rs ++ map (T .row) ys) rows-changed))
-          ∙ (ap (replace (T .run w) (T .layout .size * T .count c)) (flatMap-append (T .layout .words) (map g (table (T .layout) (T .run w) (T .count c))) (map (T .row) ys))
-          ∙ replace-then (T .run w) (T .layout .size * T .count c) (flatMap (T .layout .words) (map g (table (T .layout) (T .run w) (T .count c)))) (flatMap (T .layout .words) (map (T .row) ys)) counted))
-          )
-        where
-          counted : length (flatMap (T .layout .words) (map g (table (T .layout) (T .run w) (T .count c)))) ≡ T .layout .size * T .count c
-          counted = rw (words-of-length (T .layout) (T .lawful), length-map, length-map, length-range) refl
+      changed-words : changed ≡ flatMap (λ j. g (piece (rowPieces (T .layout .size)) (T .run w) j)) (range 0 (T .count c))
+      unfolding changed
+      changed-words =
+          row-words (map k (T .records (load w c)))
+          ∙ (flatMap-map (λ x. g (T .layout .words (T .row x))) (λ x. T .layout .words (T .row x)) k (T .records (load w c)) (λ x m. s x)
+          ∙ (ap (flatMap (λ x. g (T .layout .words (T .row x)))) (T .loaded w c)
+          ∙ flatMap-map (λ j. g (piece (rowPieces (T .layout .size)) (T .run w) j)) (λ x. g (T .layout .words (T .row x))) (T .place w) (range 0 (T .count c)) (λ j m. ap g (piece-row w c h j m))))
+
+      changed-run : eachRecord (T .layout .size) g (T .run w) (T .count c) ≡ replace (T .run w) (T .layout .size * T .count c) changed
+      unfolding eachRecord
+      changed-run = ap (overwrite (T .run w) 0) (sym changed-words) ∙ sym (replace-same (T .run w) (T .layout .size * T .count c) changed changed-length)
+
+      pub table-changed : T .records C ≡ map k (T .records (load w c)) → eachRecord (T .layout .size) g (T .run w) (T .count c) ≡ T .run (store w c C)
+      unfolding changed
+      table-changed e = changed-run ∙ sym (T .stored w c C ∙ ap (λ xs. storeTable (T .layout) (T .run w) (T .count c) (map (T .row) xs)) e)
+
+      pub table-changed-more : (ys : List X) → T .records C ≡ map k (T .records (load w c)) ++ ys
+          → extendTable (T .layout) (eachRecord (T .layout .size) g (T .run w) (T .count c)) (T .count c) (map (T .row) ys) ≡ T .run (store w c C)
+      unfolding changed
+      table-changed-more ys e =
+          ap (λ v. extendTable (T .layout) v (T .count c) (map (T .row) ys)) changed-run
+          ∙ sym (T .stored w c C
+          ∙ (ap (λ xs. storeTable (T .layout) (T .run w) (T .count c) xs) (ap (map (T .row)) e ∙ map-append (T .row) (map k (T .records (load w c))) ys)
+          ∙ (ap (replace (T .run w) (T .layout .size * T .count c)) (flatMap-append (T .layout .words) (map (T .row) (map k (T .records (load w c)))) (map (T .row) ys))
+          ∙ replace-then (T .run w) (T .layout .size * T .count c) changed (flatMap (T .layout .words) (map (T .row) ys)) changed-length)))
+
+-- a record with one word changed: the end of an open record, or a number that grows
+
+-- a choice of words, made at one of them
+chosen : {A : Type 0} (f : ℕ → A) (b : Bool) (x y : ℕ) → f (cond b x y) ≡ cond b (f x) (f y)
+chosen f true x y = refl
+chosen f false x y = refl
+
+abbrev endsAt : {A : Type 0} → Versioned A → ℕ → Versioned A
+endsAt v e = record { id = v .id; begin = v .begin; end = e; body = v .body }
+
+-- where the word `key` is what names a record, and setting the word `end` is setting its end
+pub record Ended {A X : Type 0} (T : StoredTable A (Versioned X)) (key end : ℕ) (name : Versioned X → ℕ) : Type 0 where
+  pub key-is : (v : Versioned X) → getD (T .layout .words (T .row v)) key 0 ≡ name v
+  pub end-is : (v : Versioned X) → getD (T .layout .words (T .row v)) end 0 ≡ v .end
+  pub set-is : (v : Versioned X) (e : ℕ) → set (T .layout .words (T .row v)) end e ≡ T .layout .words (T .row (endsAt v e))
+
+pub closed-words : {A X : Type 0} (T : StoredTable A (Versioned X)) {key end : ℕ} {name : Versioned X → ℕ} → Ended T key end name → (k n : ℕ) (v : Versioned X)
+    → T .layout .words (T .row (close n (λ x. eqb (name x) k) v)) ≡ setWhere key end k absent n (T .layout .words (T .row v))
+unfolding close setWhere
+closed-words T {key} {end} {name} E k n v =
+    chosen (λ e. T .layout .words (T .row (endsAt v e))) (eqb (name v) k && eqb (v .end) absent) n (v .end)
+    ∙ sym (rw (E .key-is v, E .end-is v, E .set-is v n) refl)
 
 -- what lies beside a record that changes stays
 pub beside-same : {X : Type 0} (words : X → List ℕ) (k : X → X) (xs : List X) → ((x : X) → words (k x) ≡ words x) → flatMap words (map k xs) ≡ flatMap words xs

@@ -1,4 +1,2 @@
-pub mod Additions
 pub mod Latest
-pub mod Rewritten
 pub mod Writes

@@ -1,14 +1,22 @@
 -- What is written into the runs: records changed in their places, and records behind those in use.
 use Prim.Native.Nat.{ℕ, _+_, _*_}
-use mathlib.Core.List.{List, map, flatMap}
-use Rattle.lists.specs.Runs.{Layout, table, overwrite}
+use mathlib.Core.List.{List, flatMap}
+use Rattle.lists.specs.Runs.{Layout, overwrite, setWhere, addWhere, eachRecord}
 use Rattle.layout.specs.declared.outcome.Counts.{Counts}
+use Rattle.layout.specs.Catalog.{absent, Versioned}
 use Rattle.layout.specs.Names.{nameSize}
-use Rattle.layout.specs.Words.{storeTable}
 
--- each of the first n records of a run changed in its place
-abbrev pub rewriteTable : {A : Type 0} → Layout A → List ℕ → ℕ → (A → A) → List ℕ
-rewriteTable L run n g = storeTable L run n (map g (table L run n))
+-- the open records of a run of n whose word `key` is k end at s
+abbrev pub endRecords : (size key end k s : ℕ) → List ℕ → ℕ → List ℕ
+endRecords size key end k s run n = eachRecord size (setWhere key end k absent s) run n
+
+-- in the records of a run of n whose word `key` is k, the word `at` grows by m
+abbrev pub growRecords : (size key at k m : ℕ) → List ℕ → ℕ → List ℕ
+growRecords size key at k m run n = eachRecord size (addWhere key at k m) run n
+
+-- "New records begin at the new snapshot, end ABSENT"
+abbrev pub opened : {A : Type 0} → ℕ → ℕ → A → Versioned A
+opened n id body = record { id = id; begin = n; end = absent; body = body }
 
 -- records behind the first n of a run
 abbrev pub extendTable : {A : Type 0} → Layout A → List ℕ → ℕ → List A → List ℕ

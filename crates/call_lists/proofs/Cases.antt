@@ -10,7 +10,7 @@ use Rattle.layout.specs.Records.{uuidOf}
 use Rattle.layout.specs.Words.{Words}
 use Rattle.ducklake.specs.Kinds.{createdSchema, createdTable, insertedIntoTable, deletedFromTable, droppedSchema, droppedTable}
 use Rattle.ducklake.specs.Commits.{createSchema, createTable, insert, delete, dropTable, dropSchema}
-use Rattle.ducklake.specs.Calls.{Call, commitAt, expireSnapshots, cleanUp, Result, placeZero}
+use Rattle.ducklake.specs.Calls.{Call, commitAt, atTime, expireSnapshots, cleanUp, Result, placeZero}
 use Rattle.call_lists.specs.Records.{readCall, spanOf}
 use Rattle.call_lists.specs.Calls.{part, expiredSnapshots, cleanedUp, callOf, callCount}
 use Rattle.call_lists.specs.Playing.{Played, stepOn, next, Tells, callsPlayed}
@@ -23,27 +23,27 @@ recordOf kind = kind ∷ 2 ∷ 3 ∷ 4 ∷ 5 ∷ 6 ∷ 1 ∷ 2 ∷ 0 ∷ 1 ∷ 2
 abbrev given : ℕ → Call
 given kind = callOf (10 ∷ 11 ∷ 12 ∷ 13 ∷ []) (20 ∷ 21 ∷ 22 ∷ 23 ∷ 24 ∷ []) (readCall (recordOf kind) 0)
 
-creates-schema : given createdSchema ≡ commitAt 2 (createSchema (20 ∷ []))
+creates-schema : given createdSchema ≡ commitAt (atTime 2) (createSchema (20 ∷ []))
 unfolding callOf
 creates-schema = refl
 
-creates-table : given createdTable ≡ commitAt 2 (createTable 3 (20 ∷ []) (11 ∷ 12 ∷ []) (22 ∷ 23 ∷ []))
+creates-table : given createdTable ≡ commitAt (atTime 2) (createTable 3 (20 ∷ []) (11 ∷ 12 ∷ []) (22 ∷ 23 ∷ []))
 unfolding callOf
 creates-table = refl
 
-inserts : given insertedIntoTable ≡ commitAt 2 (insert 3 4 (uuidOf 5 6) (11 ∷ 12 ∷ []))
+inserts : given insertedIntoTable ≡ commitAt (atTime 2) (insert 3 4 (uuidOf 5 6) (11 ∷ 12 ∷ []))
 unfolding callOf
 inserts = refl
 
-deletes : given deletedFromTable ≡ commitAt 2 (delete 3 (uuidOf 5 6) (11 ∷ 12 ∷ []))
+deletes : given deletedFromTable ≡ commitAt (atTime 2) (delete 3 (uuidOf 5 6) (11 ∷ 12 ∷ []))
 unfolding callOf
 deletes = refl
 
-drops-schema : given droppedSchema ≡ commitAt 2 (dropSchema 3)
+drops-schema : given droppedSchema ≡ commitAt (atTime 2) (dropSchema 3)
 unfolding callOf
 drops-schema = refl
 
-drops-table : given droppedTable ≡ commitAt 2 (dropTable 3)
+drops-table : given droppedTable ≡ commitAt (atTime 2) (dropTable 3)
 unfolding callOf
 drops-table = refl
 

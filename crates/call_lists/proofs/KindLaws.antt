@@ -11,28 +11,28 @@ use Rattle.ducklake.specs.Kinds.{createdSchema, createdTable, insertedIntoTable
 use Rattle.ducklake.specs.Commits.{createSchema, createTable, insert, delete, dropTable, dropSchema}
 use Rattle.ducklake.specs.Calls.{Call, commitAt, expireSnapshots, cleanUp, perform, Promise}
 use Rattle.call_lists.specs.declared.record.CallRecord.{CallRecord}
-use Rattle.call_lists.specs.Calls.{part, expiredSnapshots, isDefinition, callOf}
+use Rattle.call_lists.specs.Calls.{part, expiredSnapshots, isDefinition, callOf, termsOf}
 
 module _ (w : Words) (c : Counts) (a : List ℕ) where
   pub promise-of : {k k′ : Call} {o : Outcome} {w′ : Words} {a′ : List ℕ} → k ≡ k′ → Promise (perform k w c a) o w′ a′ → Promise (perform k′ w c a) o w′ a′
   promise-of {o} {w′} {a′} q p = subst (λ (k : Call). Promise (perform k w c a) o w′ a′) q p
 
 module _ (words names : List ℕ) (r : CallRecord) where
-  pub create-schema-is : {name : List ℕ} → r .kind ≡ createdSchema → name ≡ part names (r .name) → commitAt (r .time) (createSchema name) ≡ callOf words names r
+  pub create-schema-is : {name : List ℕ} → r .kind ≡ createdSchema → name ≡ part names (r .name) → commitAt (termsOf r) (createSchema name) ≡ callOf words names r
   unfolding callOf
   create-schema-is q e = rw (q, e) refl
 
   pub create-table-is : {name columns columnNames : List ℕ} → r .kind ≡ createdTable → name ≡ part names (r .name) → columns ≡ part words (r .words)
-      → columnNames ≡ part names (r .names) → commitAt (r .time) (createTable (r .object) name columns columnNames) ≡ callOf words names r
+      → columnNames ≡ part names (r .names) → commitAt (termsOf r) (createTable (r .object) name columns columnNames) ≡ callOf words names r
   unfolding callOf
   create-table-is q e f g = rw (q, e, f, g) refl
 
-  pub drop-schema-is : r .kind ≡ droppedSchema → commitAt (r .time) (dropSchema (r .object)) ≡ callOf words names r
+  pub drop-schema-is : r .kind ≡ droppedSchema → commitAt (termsOf r) (dropSchema (r .object)) ≡ callOf words names r
   unfolding callOf
   drop-schema-is q = rw q refl
 
   pub drop-table-is : isDefinition (r .kind) ≡ true → (r .kind ≡ createdSchema → ⊥) → (r .kind ≡ createdTable → ⊥) → (r .kind ≡ droppedSchema → ⊥)
-      → commitAt (r .time) (dropTable (r .object)) ≡ callOf words names r
+      → commitAt (termsOf r) (dropTable (r .object)) ≡ callOf words names r
   unfolding callOf
   drop-table-is d n₁ n₂ n₃ = rw last refl
     where
@@ -40,12 +40,12 @@ module _ (words names : List ℕ) (r : CallRecord) where
       last = eqb-true (r .kind) droppedTable (rw (ne-eqb _ _ n₁, ne-eqb _ _ n₂, ne-eqb _ _ n₃) at d)
 
   pub insert-is : {statistics : List ℕ} → r .kind ≡ insertedIntoTable → statistics ≡ part words (r .words)
-      → commitAt (r .time) (insert (r .object) (r .«record_count») (r .uuid) statistics) ≡ callOf words names r
+      → commitAt (termsOf r) (insert (r .object) (r .«record_count») (r .uuid) statistics) ≡ callOf words names r
   unfolding callOf
   insert-is q e = rw (q, e) refl
 
   pub delete-is : {positions : List ℕ} → r .kind ≡ deletedFromTable → positions ≡ part words (r .words)
-      → commitAt (r .time) (delete (r .object) (r .uuid) positions) ≡ callOf words names r
+      → commitAt (termsOf r) (delete (r .object) (r .uuid) positions) ≡ callOf words names r
   unfolding callOf
   delete-is q e = rw (q, e) refl
 

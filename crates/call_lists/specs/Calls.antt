@@ -8,6 +8,7 @@ use Rattle.lists.specs.declared.Found.{Found}
 use Rattle.lists.specs.declared.Found.the-variants.{At, Nothing}
 use Rattle.lists.specs.Lists.{place}
 use Rattle.lists.specs.Runs.{table}
+use Rattle.layout.specs.declared.outcome.Terms.{Terms}
 use Rattle.ducklake.specs.Kinds.{createdSchema, createdTable, insertedIntoTable, deletedFromTable, droppedSchema, droppedTable}
 use Rattle.ducklake.specs.Commits.{createSchema, createTable, insert, delete, dropTable, dropSchema}
 use Rattle.ducklake.specs.Calls.{Call, commitAt, expireSnapshots, cleanUp}
@@ -18,6 +19,10 @@ use Rattle.call_lists.specs.Records.{callLayout}
 -- the words or bytes of a span that are there
 abbrev pub part : List ℕ → Span → List ℕ
 part run span = take (span .length) (drop (span .start) run)
+
+-- the terms of a record that is a commit
+abbrev pub termsOf : CallRecord → Terms
+termsOf r = record { time = r .time }
 
 -- A commit's kind is that of the change that it makes; expiry and cleanup make no change that a snapshot records.
 
@@ -41,15 +46,15 @@ isCallKind kind = isDefinition kind || isOfFiles kind
 module _ (words names : List ℕ) (r : CallRecord) where
   abbrev definitionOf : Call
   definitionOf =
-      cond (eqb (r .kind) createdSchema) (commitAt (r .time) (createSchema (part names (r .name))))
-      (cond (eqb (r .kind) createdTable) (commitAt (r .time) (createTable (r .object) (part names (r .name)) (part words (r .words)) (part names (r .names))))
-      (cond (eqb (r .kind) droppedSchema) (commitAt (r .time) (dropSchema (r .object)))
-      (commitAt (r .time) (dropTable (r .object)))))
+      cond (eqb (r .kind) createdSchema) (commitAt (termsOf r) (createSchema (part names (r .name))))
+      (cond (eqb (r .kind) createdTable) (commitAt (termsOf r) (createTable (r .object) (part names (r .name)) (part words (r .words)) (part names (r .names))))
+      (cond (eqb (r .kind) droppedSchema) (commitAt (termsOf r) (dropSchema (r .object)))
+      (commitAt (termsOf r) (dropTable (r .object)))))
 
   abbrev callOfFiles : Call
   callOfFiles =
-      cond (eqb (r .kind) insertedIntoTable) (commitAt (r .time) (insert (r .object) (r .«record_count») (r .uuid) (part words (r .words))))
-      (cond (eqb (r .kind) deletedFromTable) (commitAt (r .time) (delete (r .object) (r .uuid) (part words (r .words))))
+      cond (eqb (r .kind) insertedIntoTable) (commitAt (termsOf r) (insert (r .object) (r .«record_count») (r .uuid) (part words (r .words))))
+      (cond (eqb (r .kind) deletedFromTable) (commitAt (termsOf r) (delete (r .object) (r .uuid) (part words (r .words))))
       (cond (eqb (r .kind) expiredSnapshots) (expireSnapshots (part words (r .words)) (r .time))
       (cleanUp (r .time))))
 

@@ -1,13 +1,8 @@
-ghost use Rattle.layout.specs.Lent.{atEntry, atExit};
-ghost use Rattle.ducklake.specs.Calls.{cleanUp, perform, Promise};
-use cleanup::due::hand_out;
-use cleanup::due::remove_due;
-use cleanup::judge::judge_cleanup;
-use layout::outcome::ACCEPTED;
+ghost use Rattle.ducklake.specs.Calls.{cleanUp, perform, Promised};
+use cleanup::clean::clean_up;
 use layout::outcome::Counts;
-use layout::outcome::NOT_SOUND;
 use layout::outcome::Outcome;
-use soundness::check::is_sound;
+use soundness::checked::check;
 
 // Cleanup: the files that were scheduled before t are handed out and leave the scheduled table.
 #[no_mangle]
@@ -28,13 +23,11 @@ pub extern "C" fn catalog_cleanup(
     t: u64,
     area: &mut [u64],
 ) -> Outcome
-    ensures { λ r. ⌜ Promise (perform (cleanUp t)
-        (atEntry snapshots schemas «schema_names» tables «table_names» columns «column_names» «data_files» «delete_files» positions statistics scheduled)
-        counts (now (area .entry))) r
-        (atExit snapshots schemas «schema_names» tables «table_names» columns «column_names» «data_files» «delete_files» positions statistics scheduled)
-        (now (area .exit)) ⌝ }
+    ensures { λ r. ⌜ Promised (perform (cleanUp t))
+        snapshots schemas «schema_names» tables «table_names» columns «column_names» «data_files» «delete_files» positions statistics scheduled
+        counts area r ⌝ }
 {
-    let sound = is_sound(
+    let checked = check(
         snapshots,
         schemas,
         schema_names,
@@ -49,39 +42,5 @@ pub extern "C" fn catalog_cleanup(
         scheduled,
         counts,
     );
-    if !sound {
-        return Outcome {
-            number: NOT_SOUND,
-            place: 0,
-            length: 0,
-            counts,
-        };
-    }
-    let number = judge_cleanup(scheduled, counts, t, area.len());
-    if number != ACCEPTED {
-        return Outcome {
-            number,
-            place: 0,
-            length: 0,
-            counts,
-        };
-    }
-    let length = hand_out(scheduled, counts.scheduled, t, area);
-    let left = remove_due(scheduled, counts.scheduled, t);
-    Outcome {
-        number: ACCEPTED,
-        place: 0,
-        length,
-        counts: Counts {
-            snapshots: counts.snapshots,
-            schemas: counts.schemas,
-            tables: counts.tables,
-            columns: counts.columns,
-            data_files: counts.data_files,
-            delete_files: counts.delete_files,
-            positions: counts.positions,
-            statistics: counts.statistics,
-            scheduled: left,
-        },
-    }
+    clean_up(checked, scheduled, counts, t, area)
 }

@@ -1,17 +1,14 @@
-ghost use Rattle.layout.specs.Lent.{atEntry, atExit};
 ghost use Rattle.ducklake.specs.Commits.{delete};
-ghost use Rattle.ducklake.specs.Calls.{commitAt, perform, Promise};
-use deleted_positions::place::refused_place;
+ghost use Rattle.ducklake.specs.Calls.{commitAt, perform, Promised};
 use layout::number::FileId;
-use layout::outcome::ACCEPTED;
 use layout::outcome::Counts;
 use layout::outcome::Outcome;
+use layout::outcome::Terms;
 use layout::record::Uuid;
-use row_deletion::added::counts_after_delete;
-use row_deletion::refuse::refuse_delete;
-use row_deletion::write::write_delete;
+use row_deletion::delete::delete_rows;
+use soundness::checked::check;
 
-// 'Delete', a commit at that time: positions of a data file, and the UUID of the new delete file.
+// 'Delete', a commit on these terms: positions of a data file, and the UUID of the new delete file.
 #[no_mangle]
 pub extern "C" fn catalog_delete(
     snapshots: &mut [u64],
@@ -27,19 +24,17 @@ pub extern "C" fn catalog_delete(
     statistics: &mut [u64],
     scheduled: &mut [u64],
     counts: Counts,
-    time: u64,
+    terms: Terms,
     data_file: FileId,
     uuid: Uuid,
     new_positions: &[u64],
     area: &mut [u64],
 ) -> Outcome
-    ensures { λ r. ⌜ Promise (perform (commitAt time (delete («data_file» .0) uuid (now («new_positions» .entry))))
-        (atEntry snapshots schemas «schema_names» tables «table_names» columns «column_names» «data_files» «delete_files» positions statistics scheduled)
-        counts (now (area .entry))) r
-        (atExit snapshots schemas «schema_names» tables «table_names» columns «column_names» «data_files» «delete_files» positions statistics scheduled)
-        (now (area .exit)) ⌝ }
+    ensures { λ r. ⌜ Promised (perform (commitAt terms (delete («data_file» .0) uuid (now («new_positions» .entry)))))
+        snapshots schemas «schema_names» tables «table_names» columns «column_names» «data_files» «delete_files» positions statistics scheduled
+        counts area r ⌝ }
 {
-    let number = refuse_delete(
+    let checked = check(
         snapshots,
         schemas,
         schema_names,
@@ -53,44 +48,18 @@ pub extern "C" fn catalog_delete(
         statistics,
         scheduled,
         counts,
-        time,
-        data_file,
-        uuid,
-        new_positions,
     );
-    let place = refused_place(
-        number,
-        snapshots,
-        delete_files,
-        positions,
-        counts,
-        data_file,
-        new_positions,
-    );
-    if number != ACCEPTED {
-        return Outcome {
-            number,
-            place,
-            length: 0,
-            counts,
-        };
-    }
-    let after = counts_after_delete(snapshots, delete_files, counts, data_file, new_positions);
-    write_delete(
+    delete_rows(
+        checked,
         snapshots,
         data_files,
         delete_files,
         positions,
+        scheduled,
         counts,
-        time,
+        terms,
         data_file,
         uuid,
         new_positions,
-    );
-    Outcome {
-        number: ACCEPTED,
-        place: 0,
-        length: 0,
-        counts: after,
-    }
+    )
 }

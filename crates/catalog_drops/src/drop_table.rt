@@ -1,16 +1,13 @@
-ghost use Rattle.layout.specs.Lent.{atEntry, atExit};
 ghost use Rattle.ducklake.specs.Commits.{dropTable};
-ghost use Rattle.ducklake.specs.Calls.{commitAt, perform, Promise};
-use commit_refusals::drop_table::refuse_drop_table;
-use commit_writes::drop_table::write_drop_table;
+ghost use Rattle.ducklake.specs.Calls.{commitAt, perform, Promised};
+use drops::drop::drop_table;
 use layout::number::CatalogId;
-use layout::outcome::ACCEPTED;
 use layout::outcome::Counts;
 use layout::outcome::Outcome;
-use table_room::counts::ONE_SNAPSHOT;
-use table_room::counts::add_counts;
+use layout::outcome::Terms;
+use soundness::checked::check;
 
-// 'Drop table', a commit at that time.
+// 'Drop table', a commit under these terms.
 #[no_mangle]
 pub extern "C" fn catalog_drop_table(
     snapshots: &mut [u64],
@@ -26,17 +23,15 @@ pub extern "C" fn catalog_drop_table(
     statistics: &mut [u64],
     scheduled: &mut [u64],
     counts: Counts,
-    time: u64,
+    terms: Terms,
     table: CatalogId,
     area: &mut [u64],
 ) -> Outcome
-    ensures { λ r. ⌜ Promise (perform (commitAt time (dropTable (table .0)))
-        (atEntry snapshots schemas «schema_names» tables «table_names» columns «column_names» «data_files» «delete_files» positions statistics scheduled)
-        counts (now (area .entry))) r
-        (atExit snapshots schemas «schema_names» tables «table_names» columns «column_names» «data_files» «delete_files» positions statistics scheduled)
-        (now (area .exit)) ⌝ }
+    ensures { λ r. ⌜ Promised (perform (commitAt terms (dropTable (table .0))))
+        snapshots schemas «schema_names» tables «table_names» columns «column_names» «data_files» «delete_files» positions statistics scheduled
+        counts area r ⌝ }
 {
-    let number = refuse_drop_table(
+    let checked = check(
         snapshots,
         schemas,
         schema_names,
@@ -50,32 +45,16 @@ pub extern "C" fn catalog_drop_table(
         statistics,
         scheduled,
         counts,
-        time,
-        table,
     );
-    if number != ACCEPTED {
-        return Outcome {
-            number,
-            place: 0,
-            length: 0,
-            counts,
-        };
-    }
-    write_drop_table(
+    drop_table(
+        checked,
         snapshots,
         tables,
         columns,
         data_files,
         delete_files,
         counts,
-        time,
+        terms,
         table,
-    );
-    let after = add_counts(counts, ONE_SNAPSHOT);
-    Outcome {
-        number: ACCEPTED,
-        place: 0,
-        length: 0,
-        counts: after,
-    }
+    )
 }

@@ -1,2 +1,3 @@
-// The public call that drops tables, as a commit.
+// The public calls that drop schemas and tables, as commits.
+pub mod drop_schema;
 pub mod drop_table;

@@ -1,10 +1,8 @@
-ghost use Rattle.layout.specs.Lent.{atEntry, atExit};
-ghost use Rattle.ducklake.specs.Calls.{expireSnapshots, perform, Promise};
-use expiry_refusals::refuse::refuse_expiry;
-use expiry_writes::effect::write_expiry;
-use layout::outcome::ACCEPTED;
+ghost use Rattle.ducklake.specs.Calls.{expireSnapshots, perform, Promised};
 use layout::outcome::Counts;
 use layout::outcome::Outcome;
+use snapshot_expiry::expire::expire_snapshots;
+use soundness::checked::check;
 
 // Expiry of the snapshots of these ids; the files that it removes are scheduled with that time.
 #[no_mangle]
@@ -26,13 +24,11 @@ pub extern "C" fn catalog_expire(
     time: u64,
     area: &mut [u64],
 ) -> Outcome
-    ensures { λ r. ⌜ Promise (perform (expireSnapshots (now (ids .entry)) time)
-        (atEntry snapshots schemas «schema_names» tables «table_names» columns «column_names» «data_files» «delete_files» positions statistics scheduled)
-        counts (now (area .entry))) r
-        (atExit snapshots schemas «schema_names» tables «table_names» columns «column_names» «data_files» «delete_files» positions statistics scheduled)
-        (now (area .exit)) ⌝ }
+    ensures { λ r. ⌜ Promised (perform (expireSnapshots (now (ids .entry)) time))
+        snapshots schemas «schema_names» tables «table_names» columns «column_names» «data_files» «delete_files» positions statistics scheduled
+        counts area r ⌝ }
 {
-    let number = refuse_expiry(
+    let checked = check(
         snapshots,
         schemas,
         schema_names,
@@ -46,17 +42,9 @@ pub extern "C" fn catalog_expire(
         statistics,
         scheduled,
         counts,
-        ids,
     );
-    if number != ACCEPTED {
-        return Outcome {
-            number,
-            place: 0,
-            length: 0,
-            counts,
-        };
-    }
-    let after = write_expiry(
+    expire_snapshots(
+        checked,
         snapshots,
         schemas,
         schema_names,
@@ -72,11 +60,5 @@ pub extern "C" fn catalog_expire(
         counts,
         ids,
         time,
-    );
-    Outcome {
-        number: ACCEPTED,
-        place: 0,
-        length: 0,
-        counts: after,
-    }
+    )
 }

@@ -1,15 +1,12 @@
 ghost use Rattle.layout.specs.Lent.{atEntry};
-ghost use Rattle.ducklake.specs.Calls.{Promise};
+ghost use Rattle.ducklake.specs.Calls.{Promised};
 ghost use Rattle.ducklake.specs.Lookup.{lookup, performLookup, LookupPromise};
 use file_lookup::copy::copy_file;
-use file_lookup::copy::judge_file;
 use file_lookup::find::find_file;
 use layout::number::FileId;
-use layout::outcome::ACCEPTED;
 use layout::outcome::Counts;
-use layout::outcome::NOT_SOUND;
 use layout::outcome::Outcome;
-use soundness::check::is_sound;
+use soundness::checked::check;
 
 // The record of a file id itself, as a part of the data files or of the delete files; an empty part with every refusal.
 pub fn catalog_find_file<'a>(
@@ -35,7 +32,7 @@ pub fn catalog_find_file<'a>(
         counts (id .0))
         («data_files» .entry) («delete_files» .entry) r (now (number .exit)) ⌝ }
 {
-    let sound = is_sound(
+    let checked = check(
         snapshots,
         schemas,
         schema_names,
@@ -50,18 +47,7 @@ pub fn catalog_find_file<'a>(
         scheduled,
         counts,
     );
-    if !sound {
-        *number = NOT_SOUND;
-        return &data_files[0..0];
-    }
-    find_file(
-        data_files,
-        counts.data_files,
-        delete_files,
-        counts.delete_files,
-        id,
-        number,
-    )
+    find_file(checked, data_files, delete_files, counts, id, number)
 }
 
 // The same record copied into the answer area: where no reference can be handed back.
@@ -83,14 +69,11 @@ pub extern "C" fn catalog_copy_file<'a>(
     id: FileId,
     area: &mut [u64],
 ) -> Outcome
-    ensures { λ r. ⌜ Promise
-        (performLookup (id .0)
-        (atEntry snapshots schemas «schema_names» tables «table_names» columns «column_names» «data_files» «delete_files» positions statistics scheduled)
-        counts (now (area .entry)))
-        r (atEntry snapshots schemas «schema_names» tables «table_names» columns «column_names» «data_files» «delete_files» positions statistics scheduled)
-        (now (area .exit)) ⌝ }
+    ensures { λ r. ⌜ Promised (performLookup (id .0))
+        snapshots schemas «schema_names» tables «table_names» columns «column_names» «data_files» «delete_files» positions statistics scheduled
+        counts area r ⌝ }
 {
-    let sound = is_sound(
+    let checked = check(
         snapshots,
         schemas,
         schema_names,
@@ -105,35 +88,5 @@ pub extern "C" fn catalog_copy_file<'a>(
         scheduled,
         counts,
     );
-    if !sound {
-        return Outcome {
-            number: NOT_SOUND,
-            place: 0,
-            length: 0,
-            counts,
-        };
-    }
-    let number = judge_file(data_files, delete_files, counts, id, area.len());
-    if number != ACCEPTED {
-        return Outcome {
-            number,
-            place: 0,
-            length: 0,
-            counts,
-        };
-    }
-    let length = copy_file(
-        data_files,
-        counts.data_files,
-        delete_files,
-        counts.delete_files,
-        id,
-        area,
-    );
-    Outcome {
-        number: ACCEPTED,
-        place: 0,
-        length,
-        counts,
-    }
+    copy_file(checked, data_files, delete_files, counts, id, area)
 }

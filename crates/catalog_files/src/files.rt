@@ -1,16 +1,11 @@
-ghost use Rattle.layout.specs.Lent.{atEntry};
 ghost use Rattle.ducklake.specs.Readings.{Query};
-ghost use Rattle.ducklake.specs.Calls.{queryAt, performReading, Promise};
+ghost use Rattle.ducklake.specs.Calls.{queryAt, performReading, Promised};
 use layout::number::CatalogId;
 use layout::number::SnapshotId;
-use layout::outcome::ACCEPTED;
 use layout::outcome::Counts;
-use layout::outcome::NOT_SOUND;
 use layout::outcome::Outcome;
-use scans::files::read_files;
-use scans::filter::Filter;
-use scans::judge::judge_table;
-use soundness::check::is_sound;
+use scans::files::list_table_files;
+use soundness::checked::check;
 
 // The files of a table at a retained snapshot, each with its delete file.
 #[no_mangle]
@@ -32,14 +27,11 @@ pub extern "C" fn catalog_list_files(
     table: CatalogId,
     area: &mut [u64],
 ) -> Outcome
-    ensures { λ r. ⌜ Promise
-        (performReading (queryAt (snapshot .0) (Query.files (table .0)))
-        (atEntry snapshots schemas «schema_names» tables «table_names» columns «column_names» «data_files» «delete_files» positions statistics scheduled)
-        counts (now (area .entry)))
-        r (atEntry snapshots schemas «schema_names» tables «table_names» columns «column_names» «data_files» «delete_files» positions statistics scheduled)
-        (now (area .exit)) ⌝ }
+    ensures { λ r. ⌜ Promised (performReading (queryAt (snapshot .0) (Query.files (table .0))))
+        snapshots schemas «schema_names» tables «table_names» columns «column_names» «data_files» «delete_files» positions statistics scheduled
+        counts area r ⌝ }
 {
-    let sound = is_sound(
+    let checked = check(
         snapshots,
         schemas,
         schema_names,
@@ -54,37 +46,16 @@ pub extern "C" fn catalog_list_files(
         scheduled,
         counts,
     );
-    if !sound {
-        return Outcome {
-            number: NOT_SOUND,
-            place: 0,
-            length: 0,
-            counts,
-        };
-    }
-    let number = judge_table(snapshots, tables, counts, table, snapshot);
-    if number != ACCEPTED {
-        return Outcome {
-            number,
-            place: 0,
-            length: 0,
-            counts,
-        };
-    }
-    let answer = read_files(
+    list_table_files(
+        checked,
+        snapshots,
+        tables,
         data_files,
         delete_files,
         statistics,
         counts,
-        table,
         snapshot,
-        Filter::Every,
+        table,
         area,
-    );
-    Outcome {
-        number: answer.number,
-        place: 0,
-        length: answer.length,
-        counts,
-    }
+    )
 }

@@ -1,70 +1,8 @@
-ghost use mathlib.Core.Path.{_≡_};
-ghost use Rattle.layout.specs.Lent.{atEntry, atExit};
-ghost use Rattle.layout.specs.Words.{Words, lent, store};
-ghost use Rattle.ducklake.specs.Commits.{freshCatalog};
-ghost use Rattle.ducklake.specs.Calls.{noCounts, performFresh, Promise};
-ghost use Rattle.catalog_fresh.specs.Relied.{FreshRoom};
-use layout::number::ABSENT;
-use layout::number::CatalogId;
-use layout::number::FileId;
-use layout::number::SnapshotId;
-use layout::outcome::ACCEPTED;
+ghost use Rattle.ducklake.specs.Calls.{performFresh, Promised};
+use crate::start::start;
 use layout::outcome::Counts;
-use layout::outcome::NO_ROOM;
 use layout::outcome::Outcome;
-use layout::record::CREATED_SCHEMA;
-use layout::record::SchemaRecord;
-use layout::record::SnapshotRecord;
-use names::write_name;
-use records::schema::write_schema;
-use records::snapshot::write_snapshot;
-use table_room::room::capacity;
-use table_room::room::is_within;
-
-// The counts of a fresh catalogue.
-const FRESH: Counts = Counts {
-    snapshots: 1,
-    schemas: 1,
-    tables: 0,
-    columns: 0,
-    data_files: 0,
-    delete_files: 0,
-    positions: 0,
-    statistics: 0,
-    scheduled: 0,
-};
-
-// "snapshot 0, schema_version 0, next_catalog_id 1, next_file_id 0, kind 1, object 0; schema 0 `main`, begin 0"
-fn write_fresh(snapshots: &mut [u64], schemas: &mut [u64], schema_names: &mut [u8], time: u64)
-    requires { ⌜ FreshRoom (now snapshots) (now schemas) (now «schema_names») ⌝ }
-    ensures { λ _. ⌜ ((w : Words) → w .snapshots ≡ now (snapshots .entry) → w .schemas ≡ now (schemas .entry) → w .schemaNames ≡ now («schema_names» .entry)
-        → lent (now (snapshots .exit)) (now (schemas .exit)) (now («schema_names» .exit)) (w .tables) (w .tableNames) (w .columns) (w .columnNames)
-        (w .dataFiles) (w .deleteFiles) (w .positions) (w .statistics) (w .scheduled) ≡ store w noCounts (freshCatalog time)) ⌝ }
-{
-    write_snapshot(
-        snapshots,
-        0,
-        SnapshotRecord {
-            id: SnapshotId(0),
-            time,
-            schema_version: 0,
-            next_catalog_id: CatalogId(1),
-            next_file_id: FileId(0),
-            kind: CREATED_SCHEMA,
-            object: CatalogId(0),
-        },
-    );
-    write_schema(
-        schemas,
-        0,
-        SchemaRecord {
-            id: CatalogId(0),
-            begin: SnapshotId(0),
-            end: SnapshotId(ABSENT),
-        },
-    );
-    write_name(schema_names, 0, b"main");
-}
+use refusals::room::capacity;
 
 // Fresh: "It ignores the used counts it is given, writes just these two records and the name, and frees nothing."
 #[no_mangle]
@@ -85,11 +23,9 @@ pub extern "C" fn catalog_fresh(
     time: u64,
     area: &mut [u64],
 ) -> Outcome
-    ensures { λ r. ⌜ Promise (performFresh time
-        (atEntry snapshots schemas «schema_names» tables «table_names» columns «column_names» «data_files» «delete_files» positions statistics scheduled)
-        counts (now (area .entry))) r
-        (atExit snapshots schemas «schema_names» tables «table_names» columns «column_names» «data_files» «delete_files» positions statistics scheduled)
-        (now (area .exit)) ⌝ }
+    ensures { λ r. ⌜ Promised (performFresh time)
+        snapshots schemas «schema_names» tables «table_names» columns «column_names» «data_files» «delete_files» positions statistics scheduled
+        counts area r ⌝ }
 {
     let room = capacity(
         snapshots,
@@ -105,20 +41,5 @@ pub extern "C" fn catalog_fresh(
         statistics,
         scheduled,
     );
-    let held = is_within(FRESH, room);
-    if !held {
-        return Outcome {
-            number: NO_ROOM,
-            place: 0,
-            length: 0,
-            counts,
-        };
-    }
-    write_fresh(snapshots, schemas, schema_names, time);
-    Outcome {
-        number: ACCEPTED,
-        place: 0,
-        length: 0,
-        counts: FRESH,
-    }
+    start(room, snapshots, schemas, schema_names, counts, time)
 }

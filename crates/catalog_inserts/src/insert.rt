@@ -1,17 +1,14 @@
-ghost use Rattle.layout.specs.Lent.{atEntry, atExit};
 ghost use Rattle.ducklake.specs.Commits.{insert};
-ghost use Rattle.ducklake.specs.Calls.{commitAt, perform, Promise};
+ghost use Rattle.ducklake.specs.Calls.{commitAt, perform, Promised};
 use layout::number::CatalogId;
-use layout::outcome::ACCEPTED;
 use layout::outcome::Counts;
 use layout::outcome::Outcome;
+use layout::outcome::Terms;
 use layout::record::Uuid;
-use row_insertion::refuse::insert_adds;
-use row_insertion::refuse::refuse_insert;
-use row_insertion::write::write_insert;
-use table_room::counts::add_counts;
+use row_insertion::insert::insert_rows;
+use soundness::checked::check;
 
-// 'Insert', a commit at that time: so many rows in a file of that UUID, with its statistics.
+// 'Insert', a commit on those terms: so many rows in a file of that UUID, with its statistics.
 #[no_mangle]
 pub extern "C" fn catalog_insert(
     snapshots: &mut [u64],
@@ -27,20 +24,18 @@ pub extern "C" fn catalog_insert(
     statistics: &mut [u64],
     scheduled: &mut [u64],
     counts: Counts,
-    time: u64,
+    terms: Terms,
     table: CatalogId,
     record_count: u64,
     uuid: Uuid,
     new_statistics: &[u64],
     area: &mut [u64],
 ) -> Outcome
-    ensures { λ r. ⌜ Promise (perform (commitAt time (insert (table .0) «record_count» uuid (now («new_statistics» .entry))))
-        (atEntry snapshots schemas «schema_names» tables «table_names» columns «column_names» «data_files» «delete_files» positions statistics scheduled)
-        counts (now (area .entry))) r
-        (atExit snapshots schemas «schema_names» tables «table_names» columns «column_names» «data_files» «delete_files» positions statistics scheduled)
-        (now (area .exit)) ⌝ }
+    ensures { λ r. ⌜ Promised (perform (commitAt terms (insert (table .0) «record_count» uuid (now («new_statistics» .entry)))))
+        snapshots schemas «schema_names» tables «table_names» columns «column_names» «data_files» «delete_files» positions statistics scheduled
+        counts area r ⌝ }
 {
-    let number = refuse_insert(
+    let checked = check(
         snapshots,
         schemas,
         schema_names,
@@ -54,38 +49,21 @@ pub extern "C" fn catalog_insert(
         statistics,
         scheduled,
         counts,
-        time,
-        table,
-        record_count,
-        uuid,
-        new_statistics,
     );
-    if number != ACCEPTED {
-        return Outcome {
-            number,
-            place: 0,
-            length: 0,
-            counts,
-        };
-    }
-    write_insert(
+    insert_rows(
+        checked,
         snapshots,
         tables,
+        columns,
         data_files,
+        delete_files,
         statistics,
+        scheduled,
         counts,
-        time,
+        terms,
         table,
         record_count,
         uuid,
         new_statistics,
-    );
-    let added = insert_adds(new_statistics);
-    let after = add_counts(counts, added);
-    Outcome {
-        number: ACCEPTED,
-        place: 0,
-        length: 0,
-        counts: after,
-    }
+    )
 }

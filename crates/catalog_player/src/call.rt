@@ -1,14 +1,14 @@
-ghost use Rattle.layout.specs.Lent.{atEntry, atExit};
-ghost use Rattle.ducklake.specs.Calls.{perform, Promise};
+ghost use Rattle.ducklake.specs.Calls.{perform, Promised};
 ghost use Rattle.call_lists.specs.Calls.{callOf};
+use call_dispatch::definitions::play_definition;
+use call_dispatch::files::play_of_files;
 use call_lists::record::CallRecord;
 use call_lists::record::is_definition;
 use layout::outcome::Counts;
 use layout::outcome::Outcome;
-use played_definitions::play_definition;
-use played_files::play_of_files;
+use soundness::checked::check;
 
-// Plays a call of a list: the one that its record stands for.
+// Plays a call of a list, the one that its record stands for: the check of the tables, then the operation.
 pub fn play_call(
     snapshots: &mut [u64],
     schemas: &mut [u64],
@@ -28,14 +28,28 @@ pub fn play_call(
     call: CallRecord,
     area: &mut [u64],
 ) -> Outcome
-    ensures { λ r. ⌜ Promise (perform (callOf (now (lists .entry)) (now (names .entry)) call)
-        (atEntry snapshots schemas «schema_names» tables «table_names» columns «column_names» «data_files» «delete_files» positions statistics scheduled)
-        counts (now (area .entry))) r
-        (atExit snapshots schemas «schema_names» tables «table_names» columns «column_names» «data_files» «delete_files» positions statistics scheduled)
-        (now (area .exit)) ⌝ }
+    ensures { λ r. ⌜ Promised (perform (callOf (now (lists .entry)) (now (names .entry)) call))
+        snapshots schemas «schema_names» tables «table_names» columns «column_names» «data_files» «delete_files» positions statistics scheduled
+        counts area r ⌝ }
 {
+    let checked = check(
+        snapshots,
+        schemas,
+        schema_names,
+        tables,
+        table_names,
+        columns,
+        column_names,
+        data_files,
+        delete_files,
+        positions,
+        statistics,
+        scheduled,
+        counts,
+    );
     if is_definition(call.kind) {
         return play_definition(
+            checked,
             snapshots,
             schemas,
             schema_names,
@@ -52,10 +66,10 @@ pub fn play_call(
             lists,
             names,
             call,
-            area,
         );
     }
     play_of_files(
+        checked,
         snapshots,
         schemas,
         schema_names,

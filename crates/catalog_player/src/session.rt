@@ -12,7 +12,7 @@ use call_lists::record::CallRecord;
 use call_lists::record::call_at;
 use call_lists::record::count_calls;
 use layout::outcome::Counts;
-use table_room::room::smaller;
+use refusals::room::smaller;
 
 // How many calls are played.
 fn calls_played(calls: &[u64], told: &[u64]) -> usize

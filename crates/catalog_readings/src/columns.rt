@@ -1,15 +1,11 @@
-ghost use Rattle.layout.specs.Lent.{atEntry};
 ghost use Rattle.ducklake.specs.Readings.{Query};
-ghost use Rattle.ducklake.specs.Calls.{queryAt, performReading, Promise};
+ghost use Rattle.ducklake.specs.Calls.{queryAt, performReading, Promised};
 use layout::number::CatalogId;
 use layout::number::SnapshotId;
-use layout::outcome::ACCEPTED;
 use layout::outcome::Counts;
-use layout::outcome::NOT_SOUND;
 use layout::outcome::Outcome;
-use listings::columns::judge_columns;
 use listings::columns::list_columns;
-use soundness::check::is_sound;
+use soundness::checked::check;
 
 // The columns of a table at a retained snapshot, by column_order.
 #[no_mangle]
@@ -31,14 +27,11 @@ pub extern "C" fn catalog_list_columns(
     table: CatalogId,
     area: &mut [u64],
 ) -> Outcome
-    ensures { λ r. ⌜ Promise
-        (performReading (queryAt (snapshot .0) (Query.columns (table .0)))
-        (atEntry snapshots schemas «schema_names» tables «table_names» columns «column_names» «data_files» «delete_files» positions statistics scheduled)
-        counts (now (area .entry)))
-        r (atEntry snapshots schemas «schema_names» tables «table_names» columns «column_names» «data_files» «delete_files» positions statistics scheduled)
-        (now (area .exit)) ⌝ }
+    ensures { λ r. ⌜ Promised (performReading (queryAt (snapshot .0) (Query.columns (table .0))))
+        snapshots schemas «schema_names» tables «table_names» columns «column_names» «data_files» «delete_files» positions statistics scheduled
+        counts area r ⌝ }
 {
-    let sound = is_sound(
+    let checked = check(
         snapshots,
         schemas,
         schema_names,
@@ -53,36 +46,14 @@ pub extern "C" fn catalog_list_columns(
         scheduled,
         counts,
     );
-    if !sound {
-        return Outcome {
-            number: NOT_SOUND,
-            place: 0,
-            length: 0,
-            counts,
-        };
-    }
-    let number = judge_columns(
+    list_columns(
+        checked,
         snapshots,
         tables,
         columns,
         counts,
-        table,
         snapshot,
-        area.len(),
-    );
-    if number != ACCEPTED {
-        return Outcome {
-            number,
-            place: 0,
-            length: 0,
-            counts,
-        };
-    }
-    let length = list_columns(columns, counts.columns, table, snapshot, area);
-    Outcome {
-        number: ACCEPTED,
-        place: 0,
-        length,
-        counts,
-    }
+        table,
+        area,
+    )
 }

@@ -1,15 +1,11 @@
-ghost use Rattle.layout.specs.Lent.{atEntry};
 ghost use Rattle.ducklake.specs.Readings.{Query};
-ghost use Rattle.ducklake.specs.Calls.{queryAt, performReading, Promise};
+ghost use Rattle.ducklake.specs.Calls.{queryAt, performReading, Promised};
 use layout::number::CatalogId;
 use layout::number::SnapshotId;
-use layout::outcome::ACCEPTED;
 use layout::outcome::Counts;
-use layout::outcome::NOT_SOUND;
 use layout::outcome::Outcome;
-use listings::named::judge_named_table;
-use listings::named::write_named_table;
-use soundness::check::is_sound;
+use listings::named::find_table_by_name;
+use soundness::checked::check;
 
 // The table of a schema that bears a name at a retained snapshot.
 #[no_mangle]
@@ -32,14 +28,11 @@ pub extern "C" fn catalog_table_by_name(
     name: &[u8],
     area: &mut [u64],
 ) -> Outcome
-    ensures { λ r. ⌜ Promise
-        (performReading (queryAt (snapshot .0) (Query.tableNamed (schema .0) (now (name .entry))))
-        (atEntry snapshots schemas «schema_names» tables «table_names» columns «column_names» «data_files» «delete_files» positions statistics scheduled)
-        counts (now (area .entry)))
-        r (atEntry snapshots schemas «schema_names» tables «table_names» columns «column_names» «data_files» «delete_files» positions statistics scheduled)
-        (now (area .exit)) ⌝ }
+    ensures { λ r. ⌜ Promised (performReading (queryAt (snapshot .0) (Query.tableNamed (schema .0) (now (name .entry)))))
+        snapshots schemas «schema_names» tables «table_names» columns «column_names» «data_files» «delete_files» positions statistics scheduled
+        counts area r ⌝ }
 {
-    let sound = is_sound(
+    let checked = check(
         snapshots,
         schemas,
         schema_names,
@@ -54,46 +47,16 @@ pub extern "C" fn catalog_table_by_name(
         scheduled,
         counts,
     );
-    if !sound {
-        return Outcome {
-            number: NOT_SOUND,
-            place: 0,
-            length: 0,
-            counts,
-        };
-    }
-    let number = judge_named_table(
+    find_table_by_name(
+        checked,
         snapshots,
         schemas,
         tables,
         table_names,
         counts,
+        snapshot,
         schema,
         name,
-        snapshot,
-        area.len(),
-    );
-    if number != ACCEPTED {
-        return Outcome {
-            number,
-            place: 0,
-            length: 0,
-            counts,
-        };
-    }
-    let length = write_named_table(
-        tables,
-        table_names,
-        counts.tables,
-        schema,
-        name,
-        snapshot,
         area,
-    );
-    Outcome {
-        number: ACCEPTED,
-        place: 0,
-        length,
-        counts,
-    }
+    )
 }

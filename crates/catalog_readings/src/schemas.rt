@@ -1,14 +1,10 @@
-ghost use Rattle.layout.specs.Lent.{atEntry};
 ghost use Rattle.ducklake.specs.Readings.{Query};
-ghost use Rattle.ducklake.specs.Calls.{queryAt, performReading, Promise};
+ghost use Rattle.ducklake.specs.Calls.{queryAt, performReading, Promised};
 use layout::number::SnapshotId;
-use layout::outcome::ACCEPTED;
 use layout::outcome::Counts;
-use layout::outcome::NOT_SOUND;
 use layout::outcome::Outcome;
-use listings::schemas::judge_schemas;
 use listings::schemas::list_schemas;
-use soundness::check::is_sound;
+use soundness::checked::check;
 
 // The schemas at a retained snapshot.
 #[no_mangle]
@@ -29,14 +25,11 @@ pub extern "C" fn catalog_list_schemas(
     snapshot: SnapshotId,
     area: &mut [u64],
 ) -> Outcome
-    ensures { λ r. ⌜ Promise
-        (performReading (queryAt (snapshot .0) Query.schemas)
-        (atEntry snapshots schemas «schema_names» tables «table_names» columns «column_names» «data_files» «delete_files» positions statistics scheduled)
-        counts (now (area .entry)))
-        r (atEntry snapshots schemas «schema_names» tables «table_names» columns «column_names» «data_files» «delete_files» positions statistics scheduled)
-        (now (area .exit)) ⌝ }
+    ensures { λ r. ⌜ Promised (performReading (queryAt (snapshot .0) Query.schemas))
+        snapshots schemas «schema_names» tables «table_names» columns «column_names» «data_files» «delete_files» positions statistics scheduled
+        counts area r ⌝ }
 {
-    let sound = is_sound(
+    let checked = check(
         snapshots,
         schemas,
         schema_names,
@@ -51,28 +44,5 @@ pub extern "C" fn catalog_list_schemas(
         scheduled,
         counts,
     );
-    if !sound {
-        return Outcome {
-            number: NOT_SOUND,
-            place: 0,
-            length: 0,
-            counts,
-        };
-    }
-    let number = judge_schemas(snapshots, schemas, counts, snapshot, area.len());
-    if number != ACCEPTED {
-        return Outcome {
-            number,
-            place: 0,
-            length: 0,
-            counts,
-        };
-    }
-    let length = list_schemas(schemas, counts.schemas, snapshot, area);
-    Outcome {
-        number: ACCEPTED,
-        place: 0,
-        length,
-        counts,
-    }
+    list_schemas(checked, snapshots, schemas, counts, snapshot, area)
 }

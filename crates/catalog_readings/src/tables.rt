@@ -1,15 +1,11 @@
-ghost use Rattle.layout.specs.Lent.{atEntry};
 ghost use Rattle.ducklake.specs.Readings.{Query};
-ghost use Rattle.ducklake.specs.Calls.{queryAt, performReading, Promise};
+ghost use Rattle.ducklake.specs.Calls.{queryAt, performReading, Promised};
 use layout::number::CatalogId;
 use layout::number::SnapshotId;
-use layout::outcome::ACCEPTED;
 use layout::outcome::Counts;
-use layout::outcome::NOT_SOUND;
 use layout::outcome::Outcome;
-use listings::tables::judge_tables;
 use listings::tables::list_tables;
-use soundness::check::is_sound;
+use soundness::checked::check;
 
 // The tables of a schema at a retained snapshot.
 #[no_mangle]
@@ -31,14 +27,11 @@ pub extern "C" fn catalog_list_tables(
     schema: CatalogId,
     area: &mut [u64],
 ) -> Outcome
-    ensures { λ r. ⌜ Promise
-        (performReading (queryAt (snapshot .0) (Query.tables (schema .0)))
-        (atEntry snapshots schemas «schema_names» tables «table_names» columns «column_names» «data_files» «delete_files» positions statistics scheduled)
-        counts (now (area .entry)))
-        r (atEntry snapshots schemas «schema_names» tables «table_names» columns «column_names» «data_files» «delete_files» positions statistics scheduled)
-        (now (area .exit)) ⌝ }
+    ensures { λ r. ⌜ Promised (performReading (queryAt (snapshot .0) (Query.tables (schema .0))))
+        snapshots schemas «schema_names» tables «table_names» columns «column_names» «data_files» «delete_files» positions statistics scheduled
+        counts area r ⌝ }
 {
-    let sound = is_sound(
+    let checked = check(
         snapshots,
         schemas,
         schema_names,
@@ -53,36 +46,14 @@ pub extern "C" fn catalog_list_tables(
         scheduled,
         counts,
     );
-    if !sound {
-        return Outcome {
-            number: NOT_SOUND,
-            place: 0,
-            length: 0,
-            counts,
-        };
-    }
-    let number = judge_tables(
+    list_tables(
+        checked,
         snapshots,
         schemas,
         tables,
         counts,
-        schema,
         snapshot,
-        area.len(),
-    );
-    if number != ACCEPTED {
-        return Outcome {
-            number,
-            place: 0,
-            length: 0,
-            counts,
-        };
-    }
-    let length = list_tables(tables, counts.tables, schema, snapshot, area);
-    Outcome {
-        number: ACCEPTED,
-        place: 0,
-        length,
-        counts,
-    }
+        schema,
+        area,
+    )
 }

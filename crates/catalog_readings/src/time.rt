@@ -1,12 +1,8 @@
-ghost use Rattle.layout.specs.Lent.{atEntry};
-ghost use Rattle.ducklake.specs.Calls.{byTime, performReading, Promise};
-use layout::outcome::ACCEPTED;
+ghost use Rattle.ducklake.specs.Calls.{byTime, performReading, Promised};
 use layout::outcome::Counts;
-use layout::outcome::NOT_SOUND;
 use layout::outcome::Outcome;
-use listings::time::judge_latest_by;
-use listings::time::write_latest_by;
-use soundness::check::is_sound;
+use listings::time::find_snapshot_by_time;
+use soundness::checked::check;
 
 // The latest snapshot at or before a time.
 #[no_mangle]
@@ -27,14 +23,11 @@ pub extern "C" fn catalog_snapshot_by_time(
     t: u64,
     area: &mut [u64],
 ) -> Outcome
-    ensures { λ r. ⌜ Promise
-        (performReading (byTime t)
-        (atEntry snapshots schemas «schema_names» tables «table_names» columns «column_names» «data_files» «delete_files» positions statistics scheduled)
-        counts (now (area .entry)))
-        r (atEntry snapshots schemas «schema_names» tables «table_names» columns «column_names» «data_files» «delete_files» positions statistics scheduled)
-        (now (area .exit)) ⌝ }
+    ensures { λ r. ⌜ Promised (performReading (byTime t))
+        snapshots schemas «schema_names» tables «table_names» columns «column_names» «data_files» «delete_files» positions statistics scheduled
+        counts area r ⌝ }
 {
-    let sound = is_sound(
+    let checked = check(
         snapshots,
         schemas,
         schema_names,
@@ -49,28 +42,5 @@ pub extern "C" fn catalog_snapshot_by_time(
         scheduled,
         counts,
     );
-    if !sound {
-        return Outcome {
-            number: NOT_SOUND,
-            place: 0,
-            length: 0,
-            counts,
-        };
-    }
-    let number = judge_latest_by(snapshots, counts, t, area.len());
-    if number != ACCEPTED {
-        return Outcome {
-            number,
-            place: 0,
-            length: 0,
-            counts,
-        };
-    }
-    let length = write_latest_by(snapshots, counts.snapshots, t, area);
-    Outcome {
-        number: ACCEPTED,
-        place: 0,
-        length,
-        counts,
-    }
+    find_snapshot_by_time(checked, snapshots, counts, t, area)
 }

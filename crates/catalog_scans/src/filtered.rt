@@ -1,18 +1,12 @@
-ghost use Rattle.layout.specs.Lent.{atEntry};
 ghost use Rattle.layout.specs.Types.{signed};
 ghost use Rattle.ducklake.specs.Readings.{Query};
-ghost use Rattle.ducklake.specs.Calls.{queryAt, performReading, Promise};
-use crate::judge::judge_column;
+ghost use Rattle.ducklake.specs.Calls.{queryAt, performReading, Promised};
 use layout::number::CatalogId;
 use layout::number::SnapshotId;
-use layout::outcome::ACCEPTED;
 use layout::outcome::Counts;
-use layout::outcome::NOT_SOUND;
 use layout::outcome::Outcome;
-use scans::files::read_files;
-use scans::filter::Filter;
-use soundness::check::is_sound;
-use values::to_signed;
+use scans::filtered::list_filtered_files;
+use soundness::checked::check;
 
 // The files of a table at a retained snapshot that its statistics keep for `column = scalar`, each with its delete file. The scalar is a signed number, by
 // its word.
@@ -37,14 +31,11 @@ pub extern "C" fn catalog_list_filtered_files(
     scalar: u64,
     area: &mut [u64],
 ) -> Outcome
-    ensures { λ r. ⌜ Promise
-        (performReading (queryAt (snapshot .0) (Query.filteredFiles (table .0) column (signed scalar)))
-        (atEntry snapshots schemas «schema_names» tables «table_names» columns «column_names» «data_files» «delete_files» positions statistics scheduled)
-        counts (now (area .entry)))
-        r (atEntry snapshots schemas «schema_names» tables «table_names» columns «column_names» «data_files» «delete_files» positions statistics scheduled)
-        (now (area .exit)) ⌝ }
+    ensures { λ r. ⌜ Promised (performReading (queryAt (snapshot .0) (Query.filteredFiles (table .0) column (signed scalar))))
+        snapshots schemas «schema_names» tables «table_names» columns «column_names» «data_files» «delete_files» positions statistics scheduled
+        counts area r ⌝ }
 {
-    let sound = is_sound(
+    let checked = check(
         snapshots,
         schemas,
         schema_names,
@@ -59,38 +50,19 @@ pub extern "C" fn catalog_list_filtered_files(
         scheduled,
         counts,
     );
-    if !sound {
-        return Outcome {
-            number: NOT_SOUND,
-            place: 0,
-            length: 0,
-            counts,
-        };
-    }
-    let number = judge_column(snapshots, tables, columns, counts, table, column, snapshot);
-    if number != ACCEPTED {
-        return Outcome {
-            number,
-            place: 0,
-            length: 0,
-            counts,
-        };
-    }
-    let value = to_signed(scalar);
-    let answer = read_files(
+    list_filtered_files(
+        checked,
+        snapshots,
+        tables,
+        columns,
         data_files,
         delete_files,
         statistics,
         counts,
-        table,
         snapshot,
-        Filter::Equal(column, value),
+        table,
+        column,
+        scalar,
         area,
-    );
-    Outcome {
-        number: answer.number,
-        place: 0,
-        length: answer.length,
-        counts,
-    }
+    )
 }

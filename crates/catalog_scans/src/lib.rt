@@ -1,5 +1,4 @@
 // The public readings of the files of a table that a filter keeps, each with its delete file, and of its rows: any content of the runs, any counts, any
 // arguments.
 pub mod filtered;
-pub mod judge;
 pub mod rows;

@@ -13,7 +13,7 @@ use Rattle.layout.specs.Words.{Words, load, scheduledAt, scheduledIn}
 use Rattle.ducklake.specs.Soundness.{sound}
 use Rattle.ducklake.specs.Refusals.{accepted, shortAnswerArea}
 use Rattle.ducklake.specs.Maintenance.{due, handedSize, handedOut}
-use Rattle.ducklake.specs.Calls.{cleanUp, judgeCall, effect, answer, refusal}
+use Rattle.ducklake.specs.Calls.{cleanUp, effect, answer, refusal}
 use Rattle.call_laws.proofs.Cleanup.{handed-length, cleanup-room}
 use Rattle.call_laws.proofs.Refusals.{sound-fits, refusal-short, refusal-none}
 use Rattle.cleanup.specs.Handed.{dueIn}
@@ -26,9 +26,9 @@ module _ (w : Words) (c : Counts) (m t : ℕ) {run : List ℕ} {k : ℕ} (e : w 
   answer-length = handed-length w c t ∙ ap (λ j. handedSize * j) (rw e (cc d))
 
   pub cleanup-short : m < handedSize * k → shortAnswerArea ≡ refusal w c m (cleanUp t)
-  unfolding judgeCall effect answer
+  unfolding effect answer
   cleanup-short l = refusal-short w c m (cleanUp t) h refl refl (cleanup-room w c t (sound-fits w c h)) (omega (arith, l, answer-length))
 
   pub cleanup-accepted : handedSize * k ≤ m → accepted ≡ refusal w c m (cleanUp t)
-  unfolding judgeCall effect answer
+  unfolding effect answer
   cleanup-accepted l = refusal-none w c m (cleanUp t) h refl refl (cleanup-room w c t (sound-fits w c h)) (omega (arith, l, answer-length))

@@ -12,7 +12,7 @@ use Rattle.layout.specs.Words.{tableLimit, scheduledAt, scheduledIn}
 use Rattle.ducklake.specs.Maintenance.{due, handedWords}
 
 -- n scheduled records in a run that holds them
-pub record Lent (run : List ℕ) (n : ℕ) : Type 0 where
+pub record ScheduledLent (run : List ℕ) (n : ℕ) : Type 0 where
   pub held : scheduledSize * n ≤ length run
   pub few : n ≤ tableLimit
 

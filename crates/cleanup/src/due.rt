@@ -7,14 +7,14 @@ ghost use Rattle.lists.specs.Pieces.{rowPieces, Compacted, Flags};
 ghost use Rattle.layout.specs.Fields.{scheduledSize};
 ghost use Rattle.layout.specs.Catalog.{scheduledOf};
 ghost use Rattle.ducklake.specs.Maintenance.{handedSize, handedWords};
-ghost use Rattle.cleanup.specs.Handed.{Lent, dueIn, wordsDue, Handed, staysAt};
-use compaction::flags::set_flag;
-use compaction::words::keep_records;
-use file_records::scheduled::scheduled_at;
-use file_records::scheduled::scheduled_start;
+ghost use Rattle.cleanup.specs.Handed.{ScheduledLent, dueIn, wordsDue, Handed, staysAt};
 use layout::number::HANDED_SIZE;
 use layout::number::TABLE_LIMIT;
 use layout::record::ScheduledRecord;
+use records::scheduled::scheduled_at;
+use records::scheduled::scheduled_start;
+use runs::flags::set_flag;
+use runs::kept_words::keep_records;
 
 // "schedule_start < t"
 fn is_due(start: u64, t: u64) -> bool
@@ -25,7 +25,7 @@ fn is_due(start: u64, t: u64) -> bool
 
 // How many of the first n records are due.
 pub fn count_due(scheduled: &[u64], n: usize, t: u64) -> usize
-    requires { ⌜ Lent (now scheduled) n ⌝ }
+    requires { ⌜ ScheduledLent (now scheduled) n ⌝ }
     ensures { λ r. ⌜ r ≡ length (dueIn (now (scheduled .entry)) n t) ⌝ }
 {
     let mut k: usize = 0;
@@ -53,7 +53,7 @@ fn write_handed(area: &mut [u64], k: usize, r: ScheduledRecord)
 
 // The words of what is due, at the front of the area; how many they are.
 pub fn hand_out(scheduled: &[u64], n: usize, t: u64, area: &mut [u64]) -> usize
-    requires { ⌜ Lent (now scheduled) n × (length (wordsDue (now scheduled) n t) ≤ length (now area)) ⌝ }
+    requires { ⌜ ScheduledLent (now scheduled) n × (length (wordsDue (now scheduled) n t) ≤ length (now area)) ⌝ }
     ensures { λ r. ⌜ Handed (now (scheduled .entry)) n t (now (area .entry)) r (now (area .exit)) ⌝ }
 {
     let mut k: usize = 0;
@@ -72,7 +72,7 @@ pub fn hand_out(scheduled: &[u64], n: usize, t: u64, area: &mut [u64]) -> usize
 
 // The flags of those that are not due.
 fn flag_later(scheduled: &[u64], n: usize, t: u64, flags: &mut [u8])
-    requires { ⌜ Lent (now scheduled) n × (n ≤ length (now flags)) ⌝ }
+    requires { ⌜ ScheduledLent (now scheduled) n × (n ≤ length (now flags)) ⌝ }
     ensures { λ _. ⌜ Flags (staysAt (now (scheduled .entry)) t) n (now (flags .exit)) ⌝ }
 {
     let mut i: usize = 0;
@@ -86,7 +86,7 @@ fn flag_later(scheduled: &[u64], n: usize, t: u64, flags: &mut [u8])
 
 // What is due goes, gaps close, freed places become 0; how many records are left.
 pub fn remove_due(scheduled: &mut [u64], n: usize, t: u64) -> usize
-    requires { ⌜ Lent (now scheduled) n ⌝ }
+    requires { ⌜ ScheduledLent (now scheduled) n ⌝ }
     ensures { λ r. ⌜ Compacted (rowPieces scheduledSize) (staysAt (now (scheduled .entry)) t) n
         (now (scheduled .entry)) (scheduledSize * r) (now (scheduled .exit)) ⌝ }
 {

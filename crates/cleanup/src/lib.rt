@@ -1,3 +1,4 @@
-// Cleanup: of the scheduled records those that are due are counted, handed out and removed; its number.
+// Cleanup on tables that were checked: refused, or of the scheduled records those that are due are handed out and removed.
+pub mod clean;
 pub mod due;
-pub mod judge;
+pub mod refuse;

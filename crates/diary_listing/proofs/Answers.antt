@@ -1,7 +1,6 @@
 -- What a reading and a file lookup leave in their areas: an accepted answer has room there, and a refused one has no words.
 use Prim.Native.Nat.{ℕ, _≤_}
-use mathlib.Core.Path.{_≡_, refl, sym, _∙_}
-use mathlib.Core.Bool.{true, false}
+use mathlib.Core.Path.{_≡_}
 use mathlib.Core.List.{List}
 use native.Mathlib.Omega.{arith}
 use lib.Dec.{eqb}
@@ -12,14 +11,14 @@ use Rattle.layout.specs.declared.outcome.Counts.{Counts}
 use Rattle.layout.specs.declared.outcome.Outcome.{Outcome}
 use Rattle.layout.specs.Words.{Words}
 use Rattle.ducklake.specs.Calls.{Reading, readingRefusal, performReading, Promise}
-use Rattle.call_laws.proofs.Refusals.{accepted-reading}
+use Rattle.call_laws.proofs.Refusals.{reading-fits}
 
 module _ (r : Reading) (w : Words) (c : Counts) (area : List ℕ) where
   answer-fits : performReading r w c area .length ≤ length area
   unfolding performReading
   answer-fits =
       if (eqb (readingRefusal w c (length area) r) 0)
-      (λ e. rw e (accepted-reading w c (length area) r refl (eqb-true (readingRefusal w c (length area) r) 0 e) .area))
+      (λ e. rw e (reading-fits w c (length area) r (eqb-true (readingRefusal w c (length area) r) 0 e)))
       (λ e. rw e (omega arith))
 
   pub outcome-fits : {o : Outcome} {w′ : Words} {area′ : List ℕ} → Promise (performReading r w c area) o w′ area′ → length area′ ≡ length area → o .length ≤ length area′

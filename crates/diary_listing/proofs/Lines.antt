@@ -1,7 +1,7 @@
 -- The lines of a file list, and what each is written from: a file's path from the record that the lookup gives, a line from its parts, the list from its lines.
-use Prim.Native.Nat.{ℕ, suc, _+_, _≤_, _<_}
-use mathlib.Core.Path.{_≡_, refl, sym, ap, ap₂, _∙_}
-use mathlib.Core.Bool.{true, false}
+use Prim.Native.Nat.{ℕ, _+_, _≤_, _<_}
+use mathlib.Core.Path.{_≡_, refl, sym, ap, _∙_}
+use mathlib.Core.Bool.{cond}
 use mathlib.Core.List.{List, [], _∷_, _++_, append-assoc}
 use native.Mathlib.Omega.{arith}
 use lib.Dec.{eqb}
@@ -9,6 +9,7 @@ use lib.ListN.{length, getD, take, drop, replicate, length-append, length-drop}
 use borrow.Author.Tests.{ne-eqb}
 use Rattle.lists.specs.Runs.{at, overwrite}
 use Rattle.lists.proofs.Runs.{overwrite-over}
+use Rattle.lists.proofs.Tests.{if}
 use Rattle.lists.proofs.Windows.{rest-step}
 use Rattle.layout.specs.declared.outcome.Counts.{Counts}
 use Rattle.layout.specs.declared.outcome.Outcome.{Outcome}
@@ -113,6 +114,10 @@ module _ (w : Words) (c : Counts) where
               let l : a ≤ length t = omega (arith, line-room) in
               rw (grouped (pathOf w c f) comma (deletePathOf w c d) lineFeed) at (written-then (written-then (written-then p q l) r l) s l)
 
+  delete-path-length : (d : ℕ) → length (deletePathOf w c d) ≡ cond (eqb d absent) 0 pathLength
+  unfolding deletePathOf
+  delete-path-length d = if (eqb d absent) (λ e. rw e refl) (λ e. rw e (path-of-length d))
+
   -- The lines of a file list
 
   lines-short : (xs : List ℕ) → length xs ≤ 1 → lines w c xs ≡ []
@@ -136,22 +141,32 @@ module _ (w : Words) (c : Counts) where
     fits = omega (arith, h .fits, s .end, ap length (lines-next xs k e), length-append (line w c (getD xs k 0) (getD xs (k + 1) 0)) (lines w c (drop (k + 2) xs)));
   }
 
-  -- The whole text
+-- Lines of the same files are equally long in any tables: a path has the same length always
+same-length : (v w : Words) (c : Counts) (xs : List ℕ) → length (lines v c xs) ≡ length (lines w c xs)
+unfolding lines
+same-length v w c [] = refl
+same-length v w c (f ∷ []) = refl
+same-length v w c (f ∷ (d ∷ xs)) =
+    let l = length-append (line v c f d) (lines v c xs) in
+    let r = length-append (line w c f d) (lines w c xs) in
+    omega (arith, l, r, line-length v c f d, line-length w c f d, delete-path-length v c d, delete-path-length w c d, same-length v w c xs)
 
-  module _ (area : List ℕ) {t : List ℕ} (h : Room t 0 (listing w c area)) {o : Outcome} {w′ : Words} {area′ : List ℕ} (p : Promise (filesAtFive w c area) o w′ area′) where
-    listing-is : listing w c area ≡ (header ++ lineFeed) ++ lines w c (take (o .length) area′)
-    unfolding listing
-    listing-is = rw (p .length, p .area) refl
+-- The whole text
 
-    listing-room : length (header ++ lineFeed) + length (lines w c (take (o .length) area′)) ≤ length t
-    listing-room = omega (arith, h .fits, ap length listing-is, length-append (header ++ lineFeed) (lines w c (take (o .length) area′)))
+module _ (w : Words) (c : Counts) (area : List ℕ) {t : List ℕ} (h : Room t 0 (listing w c area)) {o : Outcome} {w′ : Words} {area′ : List ℕ} (p : Promise (filesAtFive w c area) o w′ area′) where
+  listing-is : listing w c area ≡ (header ++ lineFeed) ++ lines w c (take (o .length) area′)
+  unfolding listing
+  listing-is = rw (p .length, p .area) refl
 
-    pub header-room : 0 + length (header ++ lineFeed) ≤ length t
-    header-room = omega (arith, listing-room)
+  listing-room : length (header ++ lineFeed) + length (lines w c (take (o .length) area′)) ≤ length t
+  listing-room = omega (arith, h .fits, ap length listing-is, length-append (header ++ lineFeed) (lines w c (take (o .length) area′)))
 
-    module _ {t₁ : List ℕ} {a₁ : ℕ} (q : Written t 0 (header ++ lineFeed) t₁ a₁) where
-      pub lines-room : Room t₁ a₁ (lines w c (take (o .length) area′))
-      lines-room = record { fits = omega (arith, listing-room, written-length q header-room, q .end) }
+  pub header-room : 0 + length (header ++ lineFeed) ≤ length t
+  header-room = omega (arith, listing-room)
 
-      pub listing-written : {t₂ : List ℕ} {a₂ : ℕ} → Written t₁ a₁ (lines w c (take (o .length) area′)) t₂ a₂ → Written t 0 (listing w c area) t₂ a₂
-      listing-written r = rw listing-is (written-then q r (omega arith))
+  module _ {t₁ : List ℕ} {a₁ : ℕ} (q : Written t 0 (header ++ lineFeed) t₁ a₁) where
+    pub lines-room : (v : Words) → Room t₁ a₁ (lines v c (take (o .length) area′))
+    lines-room v = record { fits = omega (arith, listing-room, written-length q header-room, q .end, same-length v w c (take (o .length) area′)) }
+
+    pub listing-written : {t₂ : List ℕ} {a₂ : ℕ} → Written t₁ a₁ (lines w c (take (o .length) area′)) t₂ a₂ → Written t 0 (listing w c area) t₂ a₂
+    listing-written r = rw listing-is (written-then q r (omega arith))

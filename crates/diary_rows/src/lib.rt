@@ -10,6 +10,7 @@ use layout::number::FileId;
 use layout::number::STATISTICS_ARGUMENT_SIZE;
 use layout::outcome::Counts;
 use layout::outcome::Outcome;
+use layout::outcome::Terms;
 use layout::record::Uuid;
 
 // The columns `item` and `price`: how many, and their ids.
@@ -93,7 +94,7 @@ pub fn insert_rows(
         statistics,
         scheduled,
         counts,
-        120,
+        Terms { time: 120 },
         CatalogId(DIARY),
         3,
         Uuid { high: 0, low: 1 },
@@ -114,7 +115,7 @@ pub fn insert_rows(
         statistics,
         scheduled,
         three.counts,
-        130,
+        Terms { time: 130 },
         CatalogId(DIARY),
         2,
         Uuid { high: 0, low: 2 },
@@ -160,7 +161,7 @@ pub fn delete_rows(
         statistics,
         scheduled,
         counts,
-        140,
+        Terms { time: 140 },
         FileId(0),
         Uuid { high: 0, low: 3 },
         &POSITION_ONE,
@@ -180,7 +181,7 @@ pub fn delete_rows(
         statistics,
         scheduled,
         one.counts,
-        150,
+        Terms { time: 150 },
         FileId(0),
         Uuid { high: 0, low: 4 },
         &POSITION_ZERO,

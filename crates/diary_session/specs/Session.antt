@@ -6,7 +6,7 @@ use Rattle.layout.specs.Names.{padded}
 use Rattle.layout.specs.Records.{uuidOf}
 use Rattle.layout.specs.Words.{Words}
 use Rattle.ducklake.specs.Commits.{createTable, insert, delete}
-use Rattle.ducklake.specs.Calls.{Call, commitAt, Result, perform, performFresh}
+use Rattle.ducklake.specs.Calls.{Call, commitAt, atTime, Result, perform, performFresh}
 
 -- "Fresh at time 100."
 abbrev pub freshTime : ℕ
@@ -34,7 +34,7 @@ withNulls = 1
 
 abbrev pub createDiary : Call
 createDiary =
-    commitAt 110 (createTable 0 diaryName (int64 ∷ withoutNulls ∷ int64 ∷ withNulls ∷ []) (padded itemName ++ padded priceName))
+    commitAt (atTime 110) (createTable 0 diaryName (int64 ∷ withoutNulls ∷ int64 ∷ withNulls ∷ []) (padded itemName ++ padded priceName))
 
 -- the table's id, and those of its columns
 
@@ -54,18 +54,18 @@ bounded column nulls min max = column ∷ nulls ∷ 1 ∷ 1 ∷ min ∷ max ∷ 
 -- "120: 3 rows, item 1 to 3, price 9 to 14, no nulls. 130: 2 rows, item 4 to 5, price 20 to 20, one null."; "UUIDs: high 0; low 1, 2, 3, 4."
 
 abbrev pub insertThree : Call
-insertThree = commitAt 120 (insert diary 3 (uuidOf 0 1) (bounded item 0 1 3 ++ bounded price 0 9 14))
+insertThree = commitAt (atTime 120) (insert diary 3 (uuidOf 0 1) (bounded item 0 1 3 ++ bounded price 0 9 14))
 
 abbrev pub insertTwo : Call
-insertTwo = commitAt 130 (insert diary 2 (uuidOf 0 2) (bounded item 0 4 5 ++ bounded price 1 20 20))
+insertTwo = commitAt (atTime 130) (insert diary 2 (uuidOf 0 2) (bounded item 0 4 5 ++ bounded price 1 20 20))
 
 -- "140: delete position 1 of file 0. 150: delete position 0 of file 0."
 
 abbrev pub deleteOne : Call
-deleteOne = commitAt 140 (delete 0 (uuidOf 0 3) (1 ∷ []))
+deleteOne = commitAt (atTime 140) (delete 0 (uuidOf 0 3) (1 ∷ []))
 
 abbrev pub deleteZero : Call
-deleteZero = commitAt 150 (delete 0 (uuidOf 0 4) (0 ∷ []))
+deleteZero = commitAt (atTime 150) (delete 0 (uuidOf 0 4) (0 ∷ []))
 
 -- a call on the tables, the counts and the area that the one before left
 abbrev pub after : Result → Call → Result

@@ -2,13 +2,14 @@
 ghost use Rattle.layout.specs.Lent.{atEntry, atExit};
 ghost use Rattle.ducklake.specs.Calls.{performFresh, Promise};
 ghost use Rattle.diary_session.specs.Session.{freshTime, createDiary, after};
+use catalog_creates::create_table::catalog_create_table;
 use catalog_fresh::fresh::catalog_fresh;
-use catalog_tables::create_table::catalog_create_table;
 use layout::number::COLUMN_ARGUMENT_SIZE;
 use layout::number::CatalogId;
 use layout::number::NAME_SIZE;
 use layout::outcome::Counts;
 use layout::outcome::Outcome;
+use layout::outcome::Terms;
 use names::write_name;
 
 // `item` int64 without nulls, `price` int64 with: how many columns, a type and whether nulls are allowed.
@@ -84,7 +85,7 @@ pub fn start_diary(
         statistics,
         scheduled,
         fresh.counts,
-        110,
+        Terms { time: 110 },
         CatalogId(0),
         b"diary",
         &NEW_COLUMNS,

@@ -1,6 +1,5 @@
--- What the tests tell: soundness as a record of facts and as no line that fails first, ids below the next ones, refusals in a row, names that don't clash.
+-- What the tests tell: soundness as a record of facts, ids below the next ones, refusals in a row, names that don't clash.
 pub mod Facts
 pub mod Below
 pub mod Needs
 pub mod Clashes
-pub mod FirstUnsound

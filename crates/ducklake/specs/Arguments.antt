@@ -22,24 +22,33 @@ columnArgumentSize = 2
 abbrev pub columnArguments : List ℕ → ℕ
 columnArguments words = length words / columnArgumentSize
 
--- the columns of a new table: "columns get (..) orders 0, 1, …"
-unfoldable pub newColumns : ℕ → List ℕ → List ℕ → List Column
-newColumns table words names =
-    map (λ i. record {
-      table = table;
-      order = i;
-      typeCode = getD words (columnArgumentSize * i) 0;
-      nullsAllowed = getD words (columnArgumentSize * i + 1) 0;
-      name = nameAt names i;
-    })
-    (range 0 (columnArguments words))
+-- a column of a new table: "columns get (..) orders 0, 1, …"
+abbrev pub columnArgument : ℕ → List ℕ → List ℕ → ℕ → Column
+columnArgument table words names i = record {
+  table = table;
+  order = i;
+  typeCode = getD words (columnArgumentSize * i) 0;
+  nullsAllowed = getD words (columnArgumentSize * i + 1) 0;
+  name = nameAt names i;
+}
 
--- "column list: not 1 to 16, unknown type, bad flag, bad or repeated name"; a ragged run is no list of columns
-unfoldable pub columnsFit : ℕ → List ℕ → List ℕ → Bool
-columnsFit table words names =
+unfoldable pub newColumns : ℕ → List ℕ → List ℕ → List Column
+newColumns table words names = map (columnArgument table words names) (range 0 (columnArguments words))
+
+-- "unknown type, bad flag, bad (..) name": a column has none of these
+abbrev pub columnFits : Column → Bool
+columnFits c = isType (c .typeCode) && isFlag (c .nullsAllowed) && isName (c .name)
+
+-- "not 1 to 16"; a ragged run is no list of columns
+unfoldable pub columnsWhole : List ℕ → List ℕ → Bool
+columnsWhole words names =
     eqb (length words) (columnArgumentSize * columnArguments words) && eqb (length names) (nameSize * columnArguments words)
     && leb 1 (columnArguments words) && leb (columnArguments words) columnLimit
-    && all (λ c. isType (c .typeCode) && isFlag (c .nullsAllowed) && isName (c .name)) (newColumns table words names)
+
+-- "column list: not 1 to 16, unknown type, bad flag, bad or repeated name"
+unfoldable pub columnsFit : ℕ → List ℕ → List ℕ → Bool
+columnsFit table words names =
+    columnsWhole words names && all columnFits (newColumns table words names)
     && pairwise (λ a b. not (clashes (a .name) (b .name))) (newColumns table words names)
 
 -- statistics: column id, null_count, has_min, has_max, min and max, six words each
@@ -50,18 +59,19 @@ statisticsArgumentSize = 6
 abbrev pub statisticsArguments : List ℕ → ℕ
 statisticsArguments words = length words / statisticsArgumentSize
 
+abbrev pub statisticsArgument : ℕ → List ℕ → ℕ → Statistics
+statisticsArgument dataFile words i = record {
+  dataFile = dataFile;
+  column = getD words (statisticsArgumentSize * i) 0;
+  nullCount = getD words (statisticsArgumentSize * i + 1) 0;
+  hasMin = getD words (statisticsArgumentSize * i + 2) 0;
+  hasMax = getD words (statisticsArgumentSize * i + 3) 0;
+  min = getD words (statisticsArgumentSize * i + 4) 0;
+  max = getD words (statisticsArgumentSize * i + 5) 0;
+}
+
 unfoldable pub newStatistics : ℕ → List ℕ → List Statistics
-newStatistics dataFile words =
-    map (λ i. record {
-      dataFile = dataFile;
-      column = getD words (statisticsArgumentSize * i) 0;
-      nullCount = getD words (statisticsArgumentSize * i + 1) 0;
-      hasMin = getD words (statisticsArgumentSize * i + 2) 0;
-      hasMax = getD words (statisticsArgumentSize * i + 3) 0;
-      min = getD words (statisticsArgumentSize * i + 4) 0;
-      max = getD words (statisticsArgumentSize * i + 5) 0;
-    })
-    (range 0 (statisticsArguments words))
+newStatistics dataFile words = map (statisticsArgument dataFile words) (range 0 (statisticsArguments words))
 
 -- one for each of these columns, "by ascending id", in a file of so many rows; a ragged run is no list of statistics
 unfoldable pub statisticsArgumentFits : List (Versioned Column) → ℕ → ℕ → List ℕ → Bool

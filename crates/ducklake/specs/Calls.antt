@@ -2,30 +2,37 @@
 use Prim.Native.Nat.{ℕ}
 use mathlib.Core.Path.{_≡_}
 use mathlib.Core.Bool.{Bool, true, not, cond, _&&_}
-use mathlib.Core.List.{List, [], _∷_}
+use mathlib.Core.List.{List, [], _∷_, _++_}
 use lib.Dec.{leb, ltb, eqb}
 use lib.ListN.{length, getD}
+use denote.Ref.{now}
 use Rattle.lists.specs.Lists.{all, any, nonEmpty, has, highest}
 use Rattle.lists.specs.Runs.{overwrite}
 use Rattle.layout.specs.declared.outcome.Counts.{Counts}
 use Rattle.layout.specs.declared.outcome.Outcome.{Outcome}
+use Rattle.layout.specs.declared.outcome.Terms.{Terms}
 use Rattle.layout.specs.declared.record.Uuid.{Uuid}
 use Rattle.layout.specs.Catalog.{Catalog}
+use Rattle.layout.specs.Lent.{LentRun, atEntry, atExit}
 use Rattle.layout.specs.Names.{isNameArgument, padded}
 use Rattle.layout.specs.Words.{Words, load, store, countsOf, capacity, within}
 use Rattle.ducklake.specs.Liveness.{retained, latest, latestId, schemasAt, tablesAt, columnsAt, deletedAt, isLive, dataFileOfId}
 use Rattle.ducklake.specs.Soundness.{isRecordCount, fileUuids, sameUuid, sound}
-use Rattle.ducklake.specs.Refusals.{accepted, notSound, noRoom, shortAnswerArea, numberTooLarge, notRetained, idOfSchema, idOfTable, idOfFile, noSuchId, noSnapshotByThen, timeFalls, badName, nameTaken, schemaNotEmpty, badColumns, badRecordCount, uuidTaken, badStatistics, badPositions, alreadyDeleted, badExpiryList, expiresLatest, need}
+use Rattle.ducklake.specs.Refusals.{accepted, notSound, noRoom, shortAnswerArea, numberTooLarge, notRetained, idOfSchema, idOfTable, idOfFile, noSuchId, noSnapshotByThen, timeFalls, badName, nameTaken, schemaNotEmpty, badColumns, badRecordCount, uuidTaken, badStatistics, badPositions, alreadyDeleted, badExpiryList, expiresLatest, first}
 use Rattle.ducklake.specs.Arguments.{clashes, columnsFit, statisticsArgumentFits, positionsFit, expiryListFits}
 use Rattle.ducklake.specs.Commits.{freshCatalog, Commit, createSchema, createTable, insert, delete, dropTable, dropSchema, newDataFileId, changeOf, commit, numbersFit}
-use Rattle.ducklake.specs.Readings.{Query, queryAnswer, judgeQuery, snapshotsByTime}
+use Rattle.ducklake.specs.Readings.{Query, queryAnswer, queryRefusals, snapshotsByTime}
 use Rattle.ducklake.specs.Maintenance.{expire, handedOut, cleanup}
 
 -- The calls that change tables, Fresh apart
 pub data Call : Type 0 where
-  commitAt : (time : ℕ) → Commit → Call
+  commitAt : (terms : Terms) → Commit → Call
   expireSnapshots : (ids : List ℕ) (time : ℕ) → Call
   cleanUp : (t : ℕ) → Call
+
+-- the terms of a commit at a time
+abbrev pub atTime : ℕ → Terms
+atTime time = record { time = time }
 
 -- "8 time below the latest snapshot's."
 abbrev pub inTime : Catalog → ℕ → Bool
@@ -39,63 +46,60 @@ uuidFree C uuid = not (any (sameUuid uuid) (fileUuids C))
 unfoldable pub offends : Catalog → ℕ → List ℕ → ℕ → Bool
 offends C dataFile positions i = ltb i (length positions) && has (getD positions i 0) (deletedAt (C .deleteFiles) (latestId C) dataFile)
 
--- "Order: 1, then 5 to 19 rising, then 4, 2, 3": 5 to 19
-unfoldable pub judgeCommit : Catalog → ℕ → Commit → ℕ → ℕ
-judgeCommit C time (createSchema name) rest =
-    need timeFalls (inTime C time)
-    (need badName (isNameArgument name)
-    (need nameTaken (not (any (λ s. clashes (s .body .name) (padded name)) (schemasAt (C .schemas) (latestId C))))
-    rest))
-judgeCommit C time (createTable schema name columns names) rest =
-    need (noSuchId C idOfSchema schema) (isLive (C .schemas) (latestId C) schema)
-    (need timeFalls (inTime C time)
-    (need badName (isNameArgument name)
-    (need nameTaken (not (any (λ t. clashes (t .body .name) (padded name)) (tablesAt (C .tables) (latestId C) schema)))
-    (need badColumns (columnsFit (latest C .nextCatalogId) columns names)
-    rest))))
-judgeCommit C time (insert table recordCount uuid statistics) rest =
-    need (noSuchId C idOfTable table) (isLive (C .tables) (latestId C) table)
-    (need timeFalls (inTime C time)
-    (need badRecordCount (isRecordCount recordCount)
-    (need uuidTaken (uuidFree C uuid)
-    (need badStatistics (statisticsArgumentFits (columnsAt (C .columns) (latestId C) table) recordCount (newDataFileId C 0) statistics)
-    rest))))
-judgeCommit C time (delete dataFile uuid positions) rest =
-    need (noSuchId C idOfFile dataFile) (isLive (C .dataFiles) (latestId C) dataFile)
-    (need timeFalls (inTime C time)
-    (need uuidTaken (uuidFree C uuid)
-    (need badPositions (positionsFit (dataFileOfId (C .dataFiles) dataFile .body .recordCount) positions)
-    (need alreadyDeleted (all (λ p. not (has p (deletedAt (C .deleteFiles) (latestId C) dataFile))) positions)
-    rest))))
-judgeCommit C time (dropTable table) rest =
-    need (noSuchId C idOfTable table) (isLive (C .tables) (latestId C) table)
-    (need timeFalls (inTime C time)
-    rest)
-judgeCommit C time (dropSchema schema) rest =
-    need (noSuchId C idOfSchema schema) (isLive (C .schemas) (latestId C) schema)
-    (need timeFalls (inTime C time)
-    (need schemaNotEmpty (not (nonEmpty (tablesAt (C .tables) (latestId C) schema)))
-    rest))
+-- "Order: 1, then 5 to 19 rising, then 4, 2, 3": 5 to 19, each with what must hold
+abbrev pub refusals : Catalog → Terms → Commit → List (ℕ × Bool)
+refusals C terms (createSchema name) =
+    (timeFalls, inTime C (terms .time))
+    ∷ (badName, isNameArgument name)
+    ∷ (nameTaken, not (any (λ s. clashes (s .body .name) (padded name)) (schemasAt (C .schemas) (latestId C))))
+    ∷ []
+refusals C terms (createTable schema name columns names) =
+    (noSuchId C idOfSchema schema, isLive (C .schemas) (latestId C) schema)
+    ∷ (timeFalls, inTime C (terms .time))
+    ∷ (badName, isNameArgument name)
+    ∷ (nameTaken, not (any (λ t. clashes (t .body .name) (padded name)) (tablesAt (C .tables) (latestId C) schema)))
+    ∷ (badColumns, columnsFit (latest C .nextCatalogId) columns names)
+    ∷ []
+refusals C terms (insert table recordCount uuid statistics) =
+    (noSuchId C idOfTable table, isLive (C .tables) (latestId C) table)
+    ∷ (timeFalls, inTime C (terms .time))
+    ∷ (badRecordCount, isRecordCount recordCount)
+    ∷ (uuidTaken, uuidFree C uuid)
+    ∷ (badStatistics, statisticsArgumentFits (columnsAt (C .columns) (latestId C) table) recordCount (newDataFileId C 0) statistics)
+    ∷ []
+refusals C terms (delete dataFile uuid positions) =
+    (noSuchId C idOfFile dataFile, isLive (C .dataFiles) (latestId C) dataFile)
+    ∷ (timeFalls, inTime C (terms .time))
+    ∷ (uuidTaken, uuidFree C uuid)
+    ∷ (badPositions, positionsFit (dataFileOfId (C .dataFiles) dataFile .body .recordCount) positions)
+    ∷ (alreadyDeleted, all (λ p. not (has p (deletedAt (C .deleteFiles) (latestId C) dataFile))) positions)
+    ∷ []
+refusals C terms (dropTable table) = (noSuchId C idOfTable table, isLive (C .tables) (latestId C) table) ∷ (timeFalls, inTime C (terms .time)) ∷ []
+refusals C terms (dropSchema schema) =
+    (noSuchId C idOfSchema schema, isLive (C .schemas) (latestId C) schema)
+    ∷ (timeFalls, inTime C (terms .time))
+    ∷ (schemaNotEmpty, not (nonEmpty (tablesAt (C .tables) (latestId C) schema)))
+    ∷ []
 
 -- then 4
-unfoldable pub judgeCall : Catalog → Call → ℕ → ℕ
-judgeCall C (commitAt time k) rest = judgeCommit C time k (need numberTooLarge (numbersFit C (changeOf C time k)) rest)
-judgeCall C (expireSnapshots ids time) rest =
-    need notRetained (all (retained (C .snapshots)) ids)
-    (need badExpiryList (expiryListFits ids)
-    (need expiresLatest (not (has (latestId C) ids))
-    rest))
-judgeCall C (cleanUp t) rest = rest
+abbrev pub callRefusals : Catalog → Call → List (ℕ × Bool)
+callRefusals C (commitAt terms k) = refusals C terms k ++ (numberTooLarge, numbersFit C (changeOf C (terms .time) k)) ∷ []
+callRefusals C (expireSnapshots ids time) =
+    (notRetained, all (retained (C .snapshots)) ids)
+    ∷ (badExpiryList, expiryListFits ids)
+    ∷ (expiresLatest, not (has (latestId C) ids))
+    ∷ []
+callRefusals C (cleanUp t) = []
 
 -- the catalog after an accepted call
 unfoldable pub effect : Catalog → Call → Catalog
-effect C (commitAt time k) = commit C (changeOf C time k)
+effect C (commitAt terms k) = commit C (changeOf C (terms .time) k)
 effect C (expireSnapshots ids time) = expire C ids time
 effect C (cleanUp t) = cleanup C t
 
 -- the words of an accepted call's answer: "commits, expiry and Fresh have length 0"
 unfoldable pub answer : Catalog → Call → List ℕ
-answer C (commitAt time k) = []
+answer C (commitAt terms k) = []
 answer C (expireSnapshots ids time) = []
 answer C (cleanUp t) = handedOut C t
 
@@ -106,11 +110,12 @@ hasRoom w C = within (countsOf C) (capacity w)
 -- the call's number on these tables, with an answer area of so many words: 1, then 5 to 19 and 4, then 2, 3
 unfoldable pub refusal : Words → Counts → ℕ → Call → ℕ
 refusal w c areaLength k =
-    need notSound (sound w c)
-    (judgeCall (load w c) k
-    (need noRoom (hasRoom w (effect (load w c) k))
-    (need shortAnswerArea (leb (length (answer (load w c) k)) areaLength)
-    accepted)))
+    first (
+    (notSound, sound w c)
+    ∷ callRefusals (load w c) k
+    ++ (noRoom, hasRoom w (effect (load w c) k))
+    ∷ (shortAnswerArea, leb (length (answer (load w c) k)) areaLength)
+    ∷ []) accepted
 
 -- What a call gives and leaves. Of its place it says which are right.
 pub record Result : Type 0 where
@@ -127,12 +132,12 @@ placeZero place = eqb place 0
 
 -- "with 17, the index of an offending position in the call's list; which of several is open"
 unfoldable pub placeOf : Catalog → Call → ℕ → ℕ → Bool
-placeOf C (commitAt time (createSchema name)) number = placeZero
-placeOf C (commitAt time (createTable schema name columns names)) number = placeZero
-placeOf C (commitAt time (insert table recordCount uuid statistics)) number = placeZero
-placeOf C (commitAt time (delete dataFile uuid positions)) number = cond (eqb number alreadyDeleted) (offends C dataFile positions) placeZero
-placeOf C (commitAt time (dropTable table)) number = placeZero
-placeOf C (commitAt time (dropSchema schema)) number = placeZero
+placeOf C (commitAt terms (createSchema name)) number = placeZero
+placeOf C (commitAt terms (createTable schema name columns names)) number = placeZero
+placeOf C (commitAt terms (insert table recordCount uuid statistics)) number = placeZero
+placeOf C (commitAt terms (delete dataFile uuid positions)) number = cond (eqb number alreadyDeleted) (offends C dataFile positions) placeZero
+placeOf C (commitAt terms (dropTable table)) number = placeZero
+placeOf C (commitAt terms (dropSchema schema)) number = placeZero
 placeOf C (expireSnapshots ids time) number = placeZero
 placeOf C (cleanUp t) number = placeZero
 
@@ -181,20 +186,22 @@ pub data Reading : Type 0 where
   queryAt : (snapshot : ℕ) → Query → Reading
   byTime : (t : ℕ) → Reading
 
-unfoldable pub judgeReading : Catalog → Reading → ℕ → ℕ
-judgeReading C (queryAt s q) rest = need notRetained (retained (C .snapshots) s) (judgeQuery C s q rest)
-judgeReading C (byTime t) rest = need noSnapshotByThen (nonEmpty (snapshotsByTime (C .snapshots) t)) rest
+abbrev pub readingRefusals : Catalog → Reading → List (ℕ × Bool)
+readingRefusals C (queryAt s q) = (notRetained, retained (C .snapshots) s) ∷ queryRefusals C s q
+readingRefusals C (byTime t) = (noSnapshotByThen, nonEmpty (snapshotsByTime (C .snapshots) t)) ∷ []
 
 unfoldable pub readingAnswer : Catalog → Reading → List ℕ
 readingAnswer C (queryAt s q) = queryAnswer C s q
 readingAnswer C (byTime t) = highest (snapshotsByTime (C .snapshots) t) ∷ []
 
+-- the reading's number: 1, then 5 to 7, then 3
 unfoldable pub readingRefusal : Words → Counts → ℕ → Reading → ℕ
 readingRefusal w c areaLength r =
-    need notSound (sound w c)
-    (judgeReading (load w c) r
-    (need shortAnswerArea (leb (length (readingAnswer (load w c) r)) areaLength)
-    accepted))
+    first (
+    (notSound, sound w c)
+    ∷ readingRefusals (load w c) r
+    ++ (shortAnswerArea, leb (length (readingAnswer (load w c) r)) areaLength)
+    ∷ []) accepted
 
 unfoldable pub performReading : Reading → Words → Counts → List ℕ → Result
 performReading r w c area =
@@ -209,3 +216,10 @@ pub record Promise (result : Result) (outcome : Outcome) (words′ : Words) (are
   pub counts : outcome .counts ≡ result .counts
   pub words : words′ ≡ result .words
   pub area : area′ ≡ result .area
+
+-- The same over a public call's parameters: the twelve lent runs and the answer area, as it is lent and as it leaves them
+abbrev pub Promised : (Words → Counts → List ℕ → Result)
+    → LentRun → LentRun → LentRun → LentRun → LentRun → LentRun → LentRun → LentRun → LentRun → LentRun → LentRun → LentRun → Counts → LentRun → Outcome → Type 0
+Promised call snapshots schemas schemaNames tables tableNames columns columnNames dataFiles deleteFiles positions statistics scheduled counts area outcome =
+    Promise (call (atEntry snapshots schemas schemaNames tables tableNames columns columnNames dataFiles deleteFiles positions statistics scheduled) counts (now (area .entry)))
+    outcome (atExit snapshots schemas schemaNames tables tableNames columns columnNames dataFiles deleteFiles positions statistics scheduled) (now (area .exit))

@@ -61,12 +61,12 @@ isListed S k =
 -- what an accepted call tells, from its arguments and its answer
 
 abbrev pub journalAfter : Journal → Call → Journal
-journalAfter J (commitAt time k) = journaled J k
+journalAfter J (commitAt terms k) = journaled J k
 journalAfter J (expireSnapshots ids time) = J
 journalAfter J (cleanUp t) = J
 
 abbrev pub expiredBy : Call → List ℕ
-expiredBy (commitAt time k) = []
+expiredBy (commitAt terms k) = []
 expiredBy (expireSnapshots ids time) = ids
 expiredBy (cleanUp t) = []
 
@@ -79,12 +79,12 @@ fileIdsOf (k ∷ (h ∷ (l ∷ rest))) = k ∷ fileIdsOf rest
 
 -- "handed out by an accepted cleanup": read off its answer area
 abbrev pub handedBy : Call → Result → List ℕ
-handedBy (commitAt time k) r = []
+handedBy (commitAt terms k) r = []
 handedBy (expireSnapshots ids time) r = []
 handedBy (cleanUp t) r = fileIdsOf (take (r .length) (r .area))
 
 abbrev pub timeOf : Call → ℕ
-timeOf (commitAt time k) = time
+timeOf (commitAt terms k) = terms .time
 timeOf (expireSnapshots ids time) = time
 timeOf (cleanUp t) = t
 

@@ -82,17 +82,23 @@ abbrev pub born : {A : Type 0} → ℕ → ℕ → List A → List (Versioned A)
 born n k [] = []
 born n k (x ∷ xs) = record { id = k; begin = n; end = absent; body = x } ∷ born n (suc k) xs
 
--- "Each commit makes one snapshot, id one above the latest. New ids come from the next ids."
-unfoldable pub nextSnapshot : Catalog → Change → Snapshot
-nextSnapshot C d = record {
-  id = suc (latestId C);
-  time = d .time;
-  schemaVersion = latest C .schemaVersion + bit (raisesSchemaVersion (d .kind));
-  nextCatalogId = latest C .nextCatalogId + length (d .added .schemas) + length (d .added .tables);
-  nextFileId = latest C .nextFileId + length (d .added .deleteFiles) + length (d .added .dataFiles);
-  kind = d .kind;
-  object = d .object;
+-- "Each commit makes one snapshot, id one above the latest. New ids come from the next ids.": the snapshot after one, with its time, kind and object, and how many
+-- catalog ids and file ids it takes
+abbrev pub following : Snapshot → ℕ → ℕ → ℕ → ℕ → ℕ → Snapshot
+following s time kind object catalogIds fileIds = record {
+  id = suc (s .id);
+  time = time;
+  schemaVersion = s .schemaVersion + bit (raisesSchemaVersion kind);
+  nextCatalogId = s .nextCatalogId + catalogIds;
+  nextFileId = s .nextFileId + fileIds;
+  kind = kind;
+  object = object;
 }
+
+unfoldable pub nextSnapshot : Catalog → Change → Snapshot
+nextSnapshot C d =
+    following (latest C) (d .time) (d .kind) (d .object) (length (d .added .schemas) + length (d .added .tables))
+    (length (d .added .deleteFiles) + length (d .added .dataFiles))
 
 -- "New ids come from the next ids": the first id of a commit's new delete files, and that of its new data files, after so many new delete files
 abbrev pub newDeleteFileId : Catalog → ℕ
@@ -101,18 +107,34 @@ newDeleteFileId C = latest C .nextFileId
 abbrev pub newDataFileId : Catalog → ℕ → ℕ
 newDataFileId C deleteFiles = newDeleteFileId C + deleteFiles
 
-unfoldable pub commit : Catalog → Change → Catalog
-commit C d =
+-- the records that a commit adds, as a catalog of their own
+abbrev pub additions : Catalog → Change → Catalog
+additions C d =
     let n : ℕ = suc (latestId C) in
     let catalogId : ℕ = latest C .nextCatalogId in
     record {
-      snapshots = C .snapshots ++ (nextSnapshot C d ∷ []);
-      schemas = map (close n (d .ends .schema)) (C .schemas) ++ born n catalogId (d .added .schemas);
-      tables = map (λ t. close n (d .ends .table) (grow (d .rows) t)) (C .tables) ++ born n (catalogId + length (d .added .schemas)) (d .added .tables);
-      columns = map (close n (d .ends .column)) (C .columns) ++ born n 1 (d .added .columns);
-      dataFiles = map (close n (d .ends .dataFile)) (C .dataFiles) ++ born n (newDataFileId C (length (d .added .deleteFiles))) (d .added .dataFiles);
-      deleteFiles = map (close n (d .ends .deleteFile)) (C .deleteFiles) ++ born n (newDeleteFileId C) (d .added .deleteFiles);
-      statistics = C .statistics ++ d .added .statistics;
+      snapshots = nextSnapshot C d ∷ [];
+      schemas = born n catalogId (d .added .schemas);
+      tables = born n (catalogId + length (d .added .schemas)) (d .added .tables);
+      columns = born n 1 (d .added .columns);
+      dataFiles = born n (newDataFileId C (length (d .added .deleteFiles))) (d .added .dataFiles);
+      deleteFiles = born n (newDeleteFileId C) (d .added .deleteFiles);
+      statistics = d .added .statistics;
+      scheduled = [];
+    }
+
+-- a commit ends records, lets tables grow, and adds
+unfoldable pub commit : Catalog → Change → Catalog
+commit C d =
+    let n : ℕ = suc (latestId C) in
+    record {
+      snapshots = C .snapshots ++ additions C d .snapshots;
+      schemas = map (close n (d .ends .schema)) (C .schemas) ++ additions C d .schemas;
+      tables = map (λ t. close n (d .ends .table) (grow (d .rows) t)) (C .tables) ++ additions C d .tables;
+      columns = map (close n (d .ends .column)) (C .columns) ++ additions C d .columns;
+      dataFiles = map (close n (d .ends .dataFile)) (C .dataFiles) ++ additions C d .dataFiles;
+      deleteFiles = map (close n (d .ends .deleteFile)) (C .deleteFiles) ++ additions C d .deleteFiles;
+      statistics = C .statistics ++ additions C d .statistics;
       scheduled = C .scheduled;
     }
 

@@ -3,7 +3,7 @@
 use Prim.Native.Nat.{ℕ, _*_}
 use mathlib.Core.Path.{_≡_}
 use mathlib.Core.Bool.{Bool, true, false, cond}
-use mathlib.Core.List.{List, []}
+use mathlib.Core.List.{List, [], _∷_, _++_}
 use lib.Dec.{leb, eqb}
 use lib.ListN.{length, take, drop}
 use denote.Ref.{RefT}
@@ -16,7 +16,7 @@ use Rattle.layout.specs.Fields.{dataFileSize, deleteFileSize}
 use Rattle.layout.specs.Catalog.{Catalog}
 use Rattle.layout.specs.Words.{Words, load}
 use Rattle.ducklake.specs.Soundness.{sound}
-use Rattle.ducklake.specs.Refusals.{accepted, notSound, shortAnswerArea, idOfFile, noSuchId, need}
+use Rattle.ducklake.specs.Refusals.{accepted, notSound, shortAnswerArea, idOfFile, noSuchId, first}
 use Rattle.ducklake.specs.Calls.{Result, placeZero, refused, answered}
 
 -- where a file's record lies: the place among the data files or among the delete files, or nowhere
@@ -42,8 +42,8 @@ isSomewhere (inDeleteFiles i) = true
 isSomewhere nowhere = false
 
 -- "An id in neither gives 6"
-unfoldable pub judgeLookup : Catalog → ℕ → ℕ → ℕ
-judgeLookup C k rest = need (noSuchId C idOfFile k) (isSomewhere (placeOfFile C k)) rest
+abbrev pub lookupRefusals : Catalog → ℕ → List (ℕ × Bool)
+lookupRefusals C k = (noSuchId C idOfFile k, isSomewhere (placeOfFile C k)) ∷ []
 
 -- what the lookup gives: a number, and where the part lies
 pub record Lookup : Type 0 where
@@ -53,7 +53,7 @@ pub record Lookup : Type 0 where
 -- "Order: 1", then 6
 unfoldable pub lookup : Words → Counts → ℕ → Lookup
 lookup w c k = record {
-  number = need notSound (sound w c) (judgeLookup (load w c) k accepted);
+  number = first ((notSound, sound w c) ∷ lookupRefusals (load w c) k) accepted;
   part = cond (sound w c) (placeOfFile (load w c) k) nowhere;
 }
 
@@ -82,7 +82,11 @@ lookupAnswer w c k = wordsAt w (placeOfFile (load w c) k)
 -- 1, then 6, then 3
 unfoldable pub lookupRefusal : Words → Counts → ℕ → ℕ → ℕ
 lookupRefusal w c areaLength k =
-    need notSound (sound w c) (judgeLookup (load w c) k (need shortAnswerArea (leb (length (lookupAnswer w c k)) areaLength) accepted))
+    first (
+    (notSound, sound w c)
+    ∷ lookupRefusals (load w c) k
+    ++ (shortAnswerArea, leb (length (lookupAnswer w c k)) areaLength)
+    ∷ []) accepted
 
 unfoldable pub performLookup : ℕ → Words → Counts → List ℕ → Result
 performLookup k w c area =

@@ -11,7 +11,7 @@ use Rattle.layout.specs.Catalog.{absent, Versioned, Snapshot, Table, DataFile, 
 use Rattle.layout.specs.Names.{isNameArgument, padded, sameName}
 use Rattle.layout.specs.Types.{signed}
 use Rattle.ducklake.specs.Liveness.{schemasAt, tablesAt, columnsAt, dataFilesAt, deleteFilesAt, deletedAt, isLive, columnLive}
-use Rattle.ducklake.specs.Refusals.{notLive, idOfSchema, idOfTable, idOfColumn, noSuchId, need}
+use Rattle.ducklake.specs.Refusals.{notLive, idOfSchema, idOfTable, idOfColumn, noSuchId}
 
 -- "At a retained snapshot: schemas, tables of a schema, columns of a table by column_order, a table by name; files of a table, by id, each with its
 -- delete file; the file list filtered by `column = scalar` (signed 64-bit)"; "Rows"
@@ -61,15 +61,20 @@ queryAnswer C s (filteredFiles table column scalar) = flatMap (listed (C .delete
 queryAnswer C s (rows table) = flatMap (fileRows (C .deleteFiles) s) (dataFilesAt (C .dataFiles) s table)
 
 -- what a query names has to be live at s: "Several ids are judged schema, table, column"; "A badly formed name in a lookup gives 6."
-unfoldable pub judgeQuery : Catalog → ℕ → Query → ℕ → ℕ
-judgeQuery C s schemas rest = rest
-judgeQuery C s (tables schema) rest = need (noSuchId C idOfSchema schema) (isLive (C .schemas) s schema) rest
-judgeQuery C s (columns table) rest = need (noSuchId C idOfTable table) (isLive (C .tables) s table) rest
-judgeQuery C s (tableNamed schema name) rest =
-    need (noSuchId C idOfSchema schema) (isLive (C .schemas) s schema) (need notLive (isNameArgument name && nonEmpty (tablesNamed (C .tables) s schema name)) rest)
-judgeQuery C s (files table) rest = need (noSuchId C idOfTable table) (isLive (C .tables) s table) rest
-judgeQuery C s (filteredFiles table column scalar) rest = need (noSuchId C idOfTable table) (isLive (C .tables) s table) (need (noSuchId C (idOfColumn table) column) (columnLive (C .columns) s table column) rest)
-judgeQuery C s (rows table) rest = need (noSuchId C idOfTable table) (isLive (C .tables) s table) rest
+abbrev pub queryRefusals : Catalog → ℕ → Query → List (ℕ × Bool)
+queryRefusals C s schemas = []
+queryRefusals C s (tables schema) = (noSuchId C idOfSchema schema, isLive (C .schemas) s schema) ∷ []
+queryRefusals C s (columns table) = (noSuchId C idOfTable table, isLive (C .tables) s table) ∷ []
+queryRefusals C s (tableNamed schema name) =
+    (noSuchId C idOfSchema schema, isLive (C .schemas) s schema)
+    ∷ (notLive, isNameArgument name && nonEmpty (tablesNamed (C .tables) s schema name))
+    ∷ []
+queryRefusals C s (files table) = (noSuchId C idOfTable table, isLive (C .tables) s table) ∷ []
+queryRefusals C s (filteredFiles table column scalar) =
+    (noSuchId C idOfTable table, isLive (C .tables) s table)
+    ∷ (noSuchId C (idOfColumn table) column, columnLive (C .columns) s table column)
+    ∷ []
+queryRefusals C s (rows table) = (noSuchId C idOfTable table, isLive (C .tables) s table) ∷ []
 
 -- "By time t: the highest retained id whose time ≤ t."
 unfoldable pub snapshotsByTime : List Snapshot → ℕ → List ℕ

@@ -1,7 +1,7 @@
 -- Document 01, 'Sound tables': a test for each of its lines, and the limits of 'The lent tables' above it.
 use Prim.Native.Nat.{ℕ, _+_}
 use mathlib.Core.Bool.{Bool, not, _&&_, _||_}
-use mathlib.Core.List.{List, _++_, map}
+use mathlib.Core.List.{List, [], _∷_, _++_, map}
 use lib.Dec.{leb, ltb, eqb}
 use lib.ListN.{length}
 use Rattle.lists.specs.Lists.{all, any, nonEmpty, pairwise, chained, agree, filter, has, before}
@@ -10,10 +10,10 @@ use Rattle.layout.specs.declared.record.Uuid.{Uuid}
 use Rattle.layout.specs.Catalog.{absent, numberLimit, recordCountLimit, columnLimit, Versioned, Snapshot, Schema, Table, Column, DataFile, DeleteFile, Statistics, Scheduled, Catalog}
 use Rattle.layout.specs.Names.{isName, sameName}
 use Rattle.layout.specs.Types.{signed, isType, inType, boundAtMost}
-use Rattle.layout.specs.Words.{Words, load, positionsBefore, capacity, within, fits}
+use Rattle.layout.specs.Words.{Words, load, positionsBefore, capacity, within}
 use Rattle.ducklake.specs.Kinds.{isKind}
 use Rattle.ducklake.specs.Liveness.{live, liveAtSome, latestOf, latest, columnsAt}
-use Rattle.ducklake.specs.Refusals.{need}
+use Rattle.ducklake.specs.Refusals.{first}
 
 -- "Ids, next ids, row numbers, column orders and schema versions are at most 2^62."
 abbrev pub inLimit : ℕ → Bool
@@ -252,32 +252,30 @@ columnCountSound cs s t = not (live s t) || (leb 1 (length (columnsAt cs s (t .i
 unfoldable pub columnCountsSound : Catalog → Bool
 columnCountsSound C = all (λ n. all (columnCountSound (C .columns) (n .id)) (C .tables)) (C .snapshots)
 
-unfoldable pub soundCatalog : Catalog → Bool
-soundCatalog C =
-    fieldsInRange C && snapshotsRise (C .snapshots) && livesSound C && idsAscend C && idsBelowNext C && filesDistinct C && livesNest C
-    && namesApart C && deletesSound C && rowRangesSound C && statisticsSound C && columnCountsSound C
-
--- 'Sound means'
-unfoldable pub sound : Words → Counts → Bool
-sound w c = fits w c && soundCatalog (load w c)
-
 -- "the counts add up to the used positions"
 abbrev pub positionsAddUp : Words → Counts → Bool
 positionsAddUp w c = eqb (positionsBefore (w .deleteFiles) (c .«delete_files»)) (c .positions)
 
--- which line of 'Sound tables', counted from 1, is the first that doesn't hold; 0 where all hold. The limit of 'The lent tables', "A table has 1 to 16 live
--- columns at each retained snapshot where it lives.", is in none of the ten lines and comes after them, as 11.
+-- 'Sound means': each line with its number, counted from 1. The limit of 'The lent tables', "A table has 1 to 16 live columns at each retained snapshot where it
+-- lives.", is in none of the ten lines and comes after them, as 11.
+abbrev pub soundLines : Words → Counts → List (ℕ × Bool)
+soundLines w c =
+    (1, within c (capacity w) && fieldsInRange (load w c))
+    ∷ (2, snapshotsRise (load w c .snapshots))
+    ∷ (3, livesSound (load w c))
+    ∷ (4, idsAscend (load w c))
+    ∷ (5, idsBelowNext (load w c) && filesDistinct (load w c))
+    ∷ (6, livesNest (load w c))
+    ∷ (7, namesApart (load w c))
+    ∷ (8, positionsAddUp w c && deletesSound (load w c))
+    ∷ (9, rowRangesSound (load w c))
+    ∷ (10, statisticsSound (load w c))
+    ∷ (11, columnCountsSound (load w c))
+    ∷ []
+
+-- the first line that doesn't hold; 0 where all hold
 unfoldable pub firstUnsound : Words → Counts → ℕ
-firstUnsound w c =
-    need 1 (within c (capacity w) && fieldsInRange (load w c))
-    (need 2 (snapshotsRise (load w c .snapshots))
-    (need 3 (livesSound (load w c))
-    (need 4 (idsAscend (load w c))
-    (need 5 (idsBelowNext (load w c) && filesDistinct (load w c))
-    (need 6 (livesNest (load w c))
-    (need 7 (namesApart (load w c))
-    (need 8 (positionsAddUp w c && deletesSound (load w c))
-    (need 9 (rowRangesSound (load w c))
-    (need 10 (statisticsSound (load w c))
-    (need 11 (columnCountsSound (load w c))
-    0))))))))))
+firstUnsound w c = first (soundLines w c) 0
+
+unfoldable pub sound : Words → Counts → Bool
+sound w c = eqb (firstUnsound w c) 0

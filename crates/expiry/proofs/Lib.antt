@@ -1,4 +1,5 @@
 pub mod Ids
 pub mod Merged
+pub mod Refused
 pub mod Relied
 pub mod Retained

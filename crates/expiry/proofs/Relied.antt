@@ -5,35 +5,40 @@ use mathlib.Core.Bool.{true}
 use mathlib.Core.List.{List}
 use native.Mathlib.Omega.{arith}
 use lib.Dec.{ltb}
-use Rattle.lists.specs.Lists.{all, nonEmpty, chained}
+use Rattle.lists.specs.Lists.{nonEmpty, chained}
 use Rattle.lists.proofs.Tests.{both}
 use Rattle.layout.specs.declared.outcome.Counts.{Counts}
 use Rattle.layout.specs.Fields.{schemaSize, schemaBeginWord, tableSize, tableBeginWord, columnSize, columnBeginWord, dataFileSize, dataFileBeginWord, deleteFileSize, deleteFileBeginWord}
-use Rattle.layout.specs.Words.{Words, load, snapshotsIn}
-use Rattle.ducklake.specs.Liveness.{retained}
-use Rattle.ducklake.specs.Refusals.{accepted, notRetained, badExpiryList}
+use Rattle.layout.specs.Words.{Words}
 use Rattle.ducklake.specs.Arguments.{expiryListFits}
-use Rattle.ducklake.specs.Calls.{expireSnapshots, judgeCall}
-use Rattle.ducklake.proofs.facts.Needs.{need-passed}
 use Rattle.call_laws.proofs.Ready.{Ready}
 use Rattle.lookup.specs.Order.{SnapshotsById, DataFilesById, DeleteFilesById}
 use Rattle.expiry.specs.Remaining.{Ids, Expirable, Versions}
-use Rattle.expiry.specs.Removed.{Files}
+use Rattle.expiry.specs.Removed.{ExpiryChecked, Files}
 use Rattle.expiry.specs.Stayed.{NamedVersions, Located, StatisticsOfFiles}
 
--- a list that passes 5 and 18 ascends
-list-ascends : (w : Words) (c : Counts) (ids : List ℕ) (time : ℕ) → judgeCall (load w c) (expireSnapshots ids time) accepted ≡ accepted → chained ltb ids ≡ true
-unfolding judgeCall load expiryListFits
-list-ascends w c ids time e =
-    let a = need-passed notRetained (all (retained (snapshotsIn (w .snapshots) (c .snapshots))) ids) _ (omega arith) e in
-    both (nonEmpty ids) (chained ltb ids) (need-passed badExpiryList (expiryListFits ids) _ (omega arith) (a .1) .0) .1
+-- a list that passes 18 ascends
+pub list-ascends : (ids : List ℕ) → expiryListFits ids ≡ true → chained ltb ids ≡ true
+unfolding expiryListFits
+list-ascends ids h = both (nonEmpty ids) (chained ltb ids) h .1
 
 module _ {w : Words} {c : Counts} (R : Ready w c) where
-  pub snapshots-by-id : SnapshotsById (w .snapshots) (c .snapshots)
+  snapshots-by-id : SnapshotsById (w .snapshots) (c .snapshots)
   snapshots-by-id = record { lent = R .held .snapshots; inside = omega arith; ascending = R .snapshotIds }
 
-  pub expirable : (ids : List ℕ) (time : ℕ) → judgeCall (load w c) (expireSnapshots ids time) accepted ≡ accepted → Expirable (w .snapshots) (c .snapshots) ids
-  expirable ids time e = record { byId = snapshots-by-id; few = omega (arith, R .few .snapshots); ascending = list-ascends w c ids time e }
+  pub expiry-checked : ExpiryChecked (w .snapshots) (w .dataFiles) (w .deleteFiles) c
+  expiry-checked = record {
+    snapshots = snapshots-by-id;
+    some = R .latest .some;
+    fewSnapshots = omega (arith, R .few .snapshots);
+    dataFiles = R .held .dataFiles;
+    fewDataFiles = R .held .dataFilesMost;
+    deleteFiles = R .held .deleteFiles;
+    fewDeleteFiles = R .held .deleteFilesMost;
+  }
+
+  pub expirable : (ids : List ℕ) → expiryListFits ids ≡ true → Expirable (w .snapshots) (c .snapshots) ids
+  expirable ids h = record { byId = snapshots-by-id; few = omega (arith, R .few .snapshots); ascending = list-ascends ids h }
 
   data-files-by-id : DataFilesById (w .dataFiles) (c .«data_files»)
   data-files-by-id = record { lent = R .held .dataFiles; inside = omega arith; ascending = R .dataFileIds }

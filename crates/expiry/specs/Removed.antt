@@ -1,19 +1,34 @@
--- The files that an expiry removes: scheduled by ascending id, data and delete files merged.
-use Prim.Native.Nat.{ℕ, _+_}
+-- What an expiry looks at, and the files that it removes: scheduled by ascending id, data and delete files merged.
+use Prim.Native.Nat.{ℕ, _+_, _*_, _≤_, _<_}
 use mathlib.Core.Path.{_≡_}
 use mathlib.Core.Bool.{Bool, not}
 use mathlib.Core.List.{List, [], _++_, map}
 use lib.ListN.{length}
 use Rattle.lists.specs.Lists.{range, filter, sortBy}
 use Rattle.lists.specs.Runs.{at}
+use Rattle.layout.specs.declared.outcome.Counts.{Counts}
 use Rattle.layout.specs.Fields.{dataFileSize, dataFileBeginWord, deleteFileSize, deleteFileBeginWord}
 use Rattle.layout.specs.Records.{deleteFileLayout, scheduledLayout}
-use Rattle.layout.specs.Catalog.{Scheduled, deleteFileOf, scheduledRecord}
-use Rattle.layout.specs.Words.{dataFileAt}
-use Rattle.ducklake.specs.Maintenance.{scheduledFile}
+use Rattle.layout.specs.Catalog.{Scheduled, Catalog, deleteFileOf, scheduledRecord}
+use Rattle.layout.specs.Words.{tableLimit, dataFileAt}
+use Rattle.ducklake.specs.Maintenance.{scheduledFile, removed, remaining}
 use Rattle.call_laws.specs.Writes.{extendTable}
-use Rattle.lookup.specs.Order.{DataFilesById, DeleteFilesById}
+use Rattle.lookup.specs.Order.{SnapshotsById, DataFilesById, DeleteFilesById}
 use Rattle.expiry.specs.Remaining.{stays, Versions}
+
+-- snapshots to be found by id, at least one, and the files
+pub record ExpiryChecked (ns fs ds : List ℕ) (c : Counts) : Type 0 where
+  pub snapshots : SnapshotsById ns (c .snapshots)
+  pub some : 0 < c .snapshots
+  pub fewSnapshots : c .snapshots ≤ tableLimit
+  pub dataFiles : dataFileSize * c .«data_files» ≤ length fs
+  pub fewDataFiles : c .«data_files» ≤ tableLimit
+  pub deleteFiles : deleteFileSize * c .«delete_files» ≤ length ds
+  pub fewDeleteFiles : c .«delete_files» ≤ tableLimit
+
+-- how many files an expiry of these ids removes
+unfoldable pub filesRemoved : Catalog → List ℕ → ℕ
+filesRemoved C ids = length (removed (remaining (C .snapshots) ids) (C .dataFiles)) + length (removed (remaining (C .snapshots) ids) (C .deleteFiles))
 
 -- the file at a place, scheduled
 abbrev pub dataFileScheduled : List ℕ → ℕ → ℕ → Scheduled

@@ -1,6 +1,5 @@
 -- The runs of which only records that stay are left, and what this relies on.
 use Prim.Native.Nat.{ℕ, _*_, _≤_}
-use mathlib.Core.Path.{_≡_}
 use mathlib.Core.Bool.{Bool}
 use mathlib.Core.List.{List}
 use lib.Dec.{eqb}
@@ -12,7 +11,7 @@ use Rattle.layout.specs.Names.{nameSize}
 use Rattle.layout.specs.Words.{tableLimit, positionsBefore, positionPieces, dataFilesIn, statisticsAt}
 use Rattle.lookup.specs.Order.{DataFilesById}
 use Rattle.lookup.specs.Versions.{liveAmong}
-use Rattle.expiry.specs.Remaining.{idsIn, stays, Versions}
+use Rattle.expiry.specs.Remaining.{stays, Versions}
 
 -- records of `size` words: r of n are left
 abbrev pub RecordsLeft : ℕ → ℕ → List ℕ → ℕ → List ℕ → ℕ → List ℕ → Type 0

@@ -9,14 +9,14 @@ ghost use Rattle.expiry.specs.Remaining.{idsIn, Expirable, snapshotStays
 ghost use Rattle.expiry.specs.Stayed.{DataFiles, fileStays, StatisticsOfFiles, statisticsStay};
 use crate::list::is_listed;
 use crate::remaining::is_live_at_any;
-use compaction::flags::set_flag;
-use file_records::statistics::statistics_data_file;
 use layout::number::FileId;
 use layout::record::DataFileRecord;
 use lists::Found;
 use lookup::find::find_data_file;
 use lookup::life::life_at;
 use records::snapshot::snapshot_id;
+use records::statistics::statistics_data_file;
+use runs::flags::set_flag;
 
 // The flags of the snapshots that are not listed.
 pub fn flag_snapshots(snapshots: &[u64], n: usize, ids: &[u64], flags: &mut [u8])

@@ -1,6 +1,7 @@
-// Expiry: the list of snapshots judged, which records stay, and the tables without those that go.
+// Expiry: its refusals, which records stay, and the tables without those that go.
 pub mod flag;
 pub mod list;
+pub mod refuse;
 pub mod remaining;
 pub mod schedule;
 pub mod table;

@@ -1,5 +1,5 @@
 ghost use mathlib.Core.Path.{_≡_};
-ghost use mathlib.Core.Bool.{true};
+ghost use mathlib.Core.Bool.{true, not};
 ghost use lib.Dec.{ltb};
 ghost use Rattle.lists.specs.Lists.{all, chained, has};
 ghost use Rattle.layout.specs.Words.{snapshotsIn};
@@ -53,4 +53,19 @@ pub fn is_listed(ids: &[u64], s: SnapshotId) -> bool
         Found::At(_) => true,
         Found::Nothing => false,
     }
+}
+
+// Whether a list, in whatever order that is, lacks a snapshot.
+pub fn lacks(ids: &[u64], s: SnapshotId) -> bool
+    ensures { λ r. ⌜ r ≡ not (has (s .0) (now (ids .entry))) ⌝ }
+{
+    let mut i: usize = 0;
+    while i < ids.len() {
+        let id = field_at(ids, ID_SIZE, 0, i);
+        if id == s.0 {
+            return false;
+        }
+        i += 1;
+    }
+    true
 }

@@ -9,14 +9,14 @@ ghost use Rattle.layout.specs.Catalog.{scheduledRecord};
 ghost use Rattle.expiry.specs.Remaining.{idsIn};
 ghost use Rattle.expiry.specs.Removed.{dataFileScheduled, deleteFileScheduled, removedFiles, Files, ScheduledMore};
 use crate::flag::stays_at;
-use file_records::data_file::data_file_at;
-use file_records::data_file::data_file_id;
-use file_records::delete_file::delete_file_at;
-use file_records::delete_file::delete_file_id;
-use file_records::scheduled::write_scheduled;
 use layout::record::DataFileRecord;
 use layout::record::DeleteFileRecord;
 use layout::record::ScheduledRecord;
+use records::data_file::data_file_at;
+use records::data_file::data_file_id;
+use records::delete_file::delete_file_at;
+use records::delete_file::delete_file_id;
+use records::scheduled::write_scheduled;
 
 // Of the data files from the place i on and the delete files from the place j on, whether one of the data files has the lowest id.
 fn data_file_next(

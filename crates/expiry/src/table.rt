@@ -1,4 +1,3 @@
-ghost use mathlib.Core.Path.{_≡_};
 ghost use Prim.Native.Nat.{_*_, _≤_};
 ghost use lib.ListN.{length};
 ghost use Rattle.lists.specs.Pieces.{rowPieces, Compacted, flagged};
@@ -9,20 +8,20 @@ ghost use Rattle.expiry.specs.Stayed.{RecordsLeft, NamedLeft, NamedVersi
 use crate::flag::flag_live;
 use crate::flag::flag_snapshots;
 use crate::flag::flag_statistics;
-use compaction::bytes::keep_places;
-use compaction::flags::is_flagged;
-use compaction::words::clear_words;
-use compaction::words::keep_records;
-use compaction::words::move_words;
-use file_records::delete_file::delete_file_delete_count;
 use layout::number::NAME_SIZE;
 use layout::number::TABLE_LIMIT;
 use layout::record::DeleteFileRecord;
 use layout::record::SnapshotRecord;
 use layout::record::StatisticsRecord;
+use records::delete_file::delete_file_delete_count;
+use runs::flags::is_flagged;
+use runs::kept_bytes::keep_places;
+use runs::kept_words::clear_words;
+use runs::kept_words::keep_records;
+use runs::kept_words::move_words;
 
 // What stays of each table; how many records are left. The snapshots that are not listed:
-pub fn expire_snapshots(snapshots: &mut [u64], n: usize, ids: &[u64]) -> usize
+pub fn expire_listed(snapshots: &mut [u64], n: usize, ids: &[u64]) -> usize
     requires { ⌜ Expirable (now snapshots) n (now ids) ⌝ }
     ensures { λ r. ⌜ Compacted (rowPieces snapshotSize) (snapshotStays (now (snapshots .entry)) (now (ids .entry))) n
         (now (snapshots .entry)) (snapshotSize * r) (now (snapshots .exit)) ⌝ }

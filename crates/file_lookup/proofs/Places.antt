@@ -1,27 +1,33 @@
--- Where a file's record lies: told by the catalog and by the runs, it is the same place; and the part that lies there holds its words.
-use Prim.Native.Nat.{ℕ, _≤_, _<_}
+-- Where a file's record lies: told by the catalog and by the runs, it is the same place; the promises of the part that lies there and of its copy.
+use Prim.Native.Nat.{ℕ}
 use mathlib.Core.Path.{_≡_, refl, sym, ap, ap₂, _∙_}
-use mathlib.Core.Bool.{true, false}
+use mathlib.Core.Bool.{Bool, true, false, not}
+use mathlib.Core.List.{List, [], _∷_}
 use native.Mathlib.Omega.{arith}
-use borrow.Author.Tests.{le-leb, lt-leb}
-use mathlib.Core.List.{List}
-use lib.Dec.{eqb, leb}
-use lib.ListN.{length}
+use lib.Dec.{eqb}
+use borrow.Author.Tests.{not-true}
 use denote.Ref.{RefT}
 use Rattle.lists.specs.declared.Found.{Found}
 use Rattle.lists.specs.declared.Found.the-variants.{At, Nothing}
 use Rattle.lists.specs.Lists.{range, place}
-use Rattle.lists.specs.Runs.{field, PartOf}
-use Rattle.lists.proofs.Tests.{if}
+use Rattle.lists.specs.Runs.{field}
 use Rattle.lists.proofs.Places.{place-map}
 use Rattle.layout.specs.declared.outcome.Counts.{Counts}
 use Rattle.layout.specs.Fields.{dataFileSize, dataFileIdWord, deleteFileSize, deleteFileIdWord}
 use Rattle.layout.specs.Words.{Words, load, dataFileAt, dataFilesIn, deleteFileAt, deleteFilesIn}
 use Rattle.ducklake.specs.Soundness.{sound}
-use Rattle.ducklake.specs.Refusals.{accepted, notLive, shortAnswerArea, need}
-use Rattle.ducklake.specs.Lookup.{FilePlace, inDataFiles, inDeleteFiles, nowhere, foundOr, placeOfFile, isSomewhere, LiesAt, wordsAt, judgeLookup, lookup, lookupAnswer, lookupRefusal}
+use Rattle.ducklake.specs.Refusals.{accepted, notSound, notLive, need}
+use Rattle.ducklake.specs.Calls.{Promise}
+use Rattle.ducklake.specs.Lookup.{FilePlace, inDataFiles, inDeleteFiles, nowhere, foundOr, placeOfFile, isSomewhere, lookupRefusals, LiesAt, wordsAt, lookup, LookupPromise, lookupAnswer, lookupRefusal, performLookup}
+use Rattle.ducklake.proofs.facts.Needs.{need-passed}
+use Rattle.call_laws.proofs.Promises.{outcome}
 use Rattle.lookup.specs.Order.{placeOf}
-use Rattle.file_lookup.specs.Runs.{placeIn, wordsIn}
+use Rattle.refusals.specs.declared.checked.Checked.{Checked}
+use Rattle.refusals.specs.Checked.{checkedOf}
+use Rattle.readings.specs.declared.answer.Answer.{Answer}
+use Rattle.readings.specs.Answers.{Answered}
+use Rattle.readings.proofs.Promises.{tests-refuse, tests-pass}
+use Rattle.file_lookup.specs.Runs.{placeIn, FilesLent}
 
 data-file-place : (run : List ℕ) (n k : ℕ) → place (λ f. eqb (f .id) k) 0 (dataFilesIn run n) ≡ placeOf dataFileSize dataFileIdWord run n k
 unfolding field
@@ -31,7 +37,7 @@ delete-file-place : (run positions : List ℕ) (n k : ℕ) → place (λ f. eqb 
 unfolding field
 delete-file-place run positions n k = place-map (λ f. eqb (f .id) k) (deleteFileAt run positions) 0 (range 0 n) ∙ sym (place-map (λ y. eqb y k) (field deleteFileSize deleteFileIdWord run) 0 (range 0 n))
 
-pub place-in : (w : Words) (c : Counts) (k : ℕ) → placeOfFile (load w c) k ≡ placeIn (w .dataFiles) (c .«data_files») (w .deleteFiles) (c .«delete_files») k
+place-in : (w : Words) (c : Counts) (k : ℕ) → placeOfFile (load w c) k ≡ placeIn (w .dataFiles) (c .«data_files») (w .deleteFiles) (c .«delete_files») k
 unfolding placeOfFile load
 place-in w c k = ap₂ (λ a b. foundOr a inDataFiles (foundOr b inDeleteFiles nowhere)) (data-file-place (w .dataFiles) (c .«data_files») k) (delete-file-place (w .deleteFiles) (w .positions) (c .«delete_files») k)
 
@@ -46,42 +52,39 @@ module _ (fs : List ℕ) (n : ℕ) (ds : List ℕ) (m k : ℕ) {r : Found} (e : 
     pub found-nowhere : q ≡ Nothing → placeIn fs n ds m k ≡ nowhere
     found-nowhere g = rw (sym e ∙ h, sym f ∙ g) refl
 
--- the part that lies at a place holds the words of its record
-pub lies-words : (a b part : RefT (List ℕ)) (p : FilePlace) → LiesAt a b part p → part .now ≡ wordsIn (a .now) (b .now) p
-lies-words a b part (inDataFiles i) h = h .words
-lies-words a b part (inDeleteFiles i) h = h .words
-lies-words a b part nowhere h = h
+abbrev pub files-lent : (w : Words) (c : Counts) {checked : Checked} → checked ≡ checkedOf w c → FilesLent checked (w .dataFiles) (w .deleteFiles) c
+files-lent w c e = record { words = w; dataFiles = refl; deleteFiles = refl; checked = e }
 
-pub words-at : (w : Words) (p : FilePlace) → wordsAt w p ≡ wordsIn (w .dataFiles) (w .deleteFiles) p
-words-at w (inDataFiles i) = refl
-words-at w (inDeleteFiles i) = refl
-words-at w nowhere = refl
+-- The part that lies at a place holds the words of its record
 
-module _ (w : Words) (c : Counts) (m k : ℕ) {fs ds : List ℕ} (e : w .dataFiles ≡ fs) (f : w .deleteFiles ≡ ds) where
-  same-place : placeOfFile (load w c) k ≡ placeIn fs (c .«data_files») ds (c .«delete_files») k
-  same-place = place-in w c k ∙ ap₂ (λ (a b : List ℕ). placeIn a (c .«data_files») b (c .«delete_files») k) e f
+lies-words : (w : Words) (a b part : RefT (List ℕ)) (p : FilePlace) → w .dataFiles ≡ a .now → w .deleteFiles ≡ b .now → LiesAt a b part p → wordsAt w p ≡ part .now
+lies-words w a b part (inDataFiles i) e f h = sym (h .words ∙ rw (← e) refl)
+lies-words w a b part (inDeleteFiles i) e f h = sym (h .words ∙ rw (← f) refl)
+lies-words w a b part nowhere e f h = sym h
 
-  pub lookup-words : lookupAnswer w c k ≡ wordsIn fs ds (placeIn fs (c .«data_files») ds (c .«delete_files») k)
-  unfolding lookupAnswer
-  lookup-words = words-at w (placeOfFile (load w c) k) ∙ (ap₂ (λ (a b : List ℕ). wordsIn a b (placeOfFile (load w c) k)) e f ∙ ap (wordsIn fs ds) same-place)
+module _ (w : Words) (c : Counts) (k : ℕ) (a b part : RefT (List ℕ)) where
+  pub part-refused : {checked : Checked} → checked ≡ checkedOf w c → not (checked .sound) ≡ true → part .now ≡ [] → LookupPromise (lookup w c k) a b part notSound
+  unfolding lookup
+  part-refused {checked} e h q = let u : sound w c ≡ false = sym (ap (λ k. k .sound) e) ∙ not-true (checked .sound) h in rw u (record { number = refl; part = q })
 
-  pub lookup-refusal : {l : ℕ} → sound w c ≡ true → l ≡ length (wordsIn fs ds (placeIn fs (c .«data_files») ds (c .«delete_files») k))
-      → need notLive (isSomewhere (placeIn fs (c .«data_files») ds (c .«delete_files») k)) (need shortAnswerArea (leb l m) accepted) ≡ lookupRefusal w c m k
-  unfolding lookupRefusal judgeLookup
-  lookup-refusal h q = rw (h, same-place, lookup-words, ← q) refl
+  module _ (e : w .dataFiles ≡ a .now) (f : w .deleteFiles ≡ b .now) where
+    pub part-found : {n : ℕ} → sound w c ≡ true → LiesAt a b part (placeIn (a .now) (c .«data_files») (b .now) (c .«delete_files») k)
+        → n ≡ need notLive (isSomewhere (placeIn (a .now) (c .«data_files») (b .now) (c .«delete_files») k)) accepted → LookupPromise (lookup w c k) a b part n
+    unfolding lookup
+    part-found h l q = rw (h, place-in w c k, e, f) (record { number = q; part = l })
 
-  -- the three ways out of the judge: n is what the lookup gave
-  module _ (h : sound w c ≡ true) {n : ℕ} (g : n ≡ need notLive (isSomewhere (placeIn fs (c .«data_files») ds (c .«delete_files») k)) accepted) where
-    pub file-nowhere : (n ≡ 0 → ⊥) → n ≡ lookupRefusal w c m k
-    file-nowhere z = if (isSomewhere (placeIn fs (c .«data_files») ds (c .«delete_files») k))
-        (λ b. absurd (z (g ∙ rw b refl)))
-        (λ b. g ∙ (rw b refl ∙ (rw b at (lookup-refusal h refl))))
+    -- The copy, from what the lookup of the part left
 
-    somewhere : n ≡ 0 → isSomewhere (placeIn fs (c .«data_files») ds (c .«delete_files») k) ≡ true
-    somewhere z = if (isSomewhere (placeIn fs (c .«data_files») ds (c .«delete_files») k)) (λ b. b) (λ b. absurd (omega (arith, rw b at g)))
+    abbrev tests : List (ℕ × Bool)
+    tests = (notSound, sound w c) ∷ lookupRefusals (load w c) k
 
-    pub file-short : {l : ℕ} → n ≡ 0 → l ≡ length (wordsIn fs ds (placeIn fs (c .«data_files») ds (c .«delete_files») k)) → m < l → shortAnswerArea ≡ lookupRefusal w c m k
-    file-short {l} z q s = rw (somewhere z, lt-leb l m s) at (lookup-refusal h q)
+    module _ {n : ℕ} (l : LookupPromise (lookup w c k) a b part n) (area : List ℕ) where
+      pub copy-refused : (n ≡ 0 → ⊥) → Promise (performLookup k w c area) (outcome n 0 0 c) w area
+      unfolding lookup performLookup lookupRefusal
+      copy-refused z = tests-refuse tests (omega arith) (lookupAnswer w c k) w c area (l .number) z
 
-    pub file-copied : {l : ℕ} → n ≡ 0 → l ≡ length (wordsIn fs ds (placeIn fs (c .«data_files») ds (c .«delete_files») k)) → l ≤ m → accepted ≡ lookupRefusal w c m k
-    file-copied {l} z q s = rw (somewhere z, le-leb l m s) at (lookup-refusal h q)
+      pub copy-answered : {area′ : List ℕ} {r : Answer} → n ≡ 0 → Answered (part .now) area r area′ → Promise (performLookup k w c area) (outcome (r .number) 0 (r .length) c) w area′
+      unfolding lookup performLookup lookupRefusal lookupAnswer
+      copy-answered z q =
+          let h = need-passed notSound (sound w c) _ (omega arith) (sym (l .number) ∙ z) .0 in
+          tests-pass tests (omega arith) (lookupAnswer w c k) w c area (l .number) z (lies-words w a b part (placeOfFile (load w c) k) e f (rw h at (l .part))) q

@@ -1,78 +1,65 @@
-ghost use mathlib.Core.Path.{_≡_};
-ghost use mathlib.Core.Bool.{true};
-ghost use Prim.Native.Nat.{_≤_};
-ghost use lib.ListN.{length};
-ghost use Rattle.lists.specs.Runs.{overwrite};
-ghost use Rattle.layout.specs.Words.{Words};
-ghost use Rattle.ducklake.specs.Soundness.{sound};
-ghost use Rattle.ducklake.specs.Lookup.{lookupRefusal};
-ghost use Rattle.file_lookup.specs.Runs.{placeIn, wordsIn, FilesById};
+ghost use Rattle.ducklake.specs.Calls.{Promise};
+ghost use Rattle.ducklake.specs.Lookup.{performLookup};
+ghost use Rattle.readings.specs.Answers.{Answered};
+ghost use Rattle.file_lookup.specs.Runs.{FilesLent};
 use crate::find::find_file;
 use layout::number::FileId;
 use layout::outcome::ACCEPTED;
 use layout::outcome::Counts;
+use layout::outcome::Outcome;
 use layout::outcome::SHORT_ANSWER_AREA;
+use readings::answer::Answer;
+use refusals::checked::Checked;
 
-// The words of a part, at the front of the answer area.
-fn copy_part(part: &[u64], area: &mut [u64])
-    requires { ⌜ length (now part) ≤ length (now area) ⌝ }
-    ensures { λ _. ⌜ now (area .exit) ≡ overwrite (now (area .entry)) 0 (now (part .entry)) ⌝ }
+// The answer that a part is: its words, at the front of the answer area.
+fn copy_part(part: &[u64], area: &mut [u64]) -> Answer
+    ensures { λ r. ⌜ Answered (now (part .entry)) (now (area .entry)) r (now (area .exit)) ⌝ }
 {
+    if area.len() < part.len() {
+        return Answer {
+            number: SHORT_ANSWER_AREA,
+            length: 0,
+        };
+    }
     let mut i: usize = 0;
     while i < part.len() {
         area[i] = part[i];
         i += 1;
     }
+    Answer {
+        number: ACCEPTED,
+        length: part.len(),
+    }
 }
 
-// The words of a file's record, at the front of the answer area: how many they are.
+// The record of a file id copied into the answer area, of tables that were checked.
 pub fn copy_file<'a>(
-    data_files: &'a [u64],
-    n: usize,
-    delete_files: &'a [u64],
-    m: usize,
-    id: FileId,
-    area: &mut [u64],
-) -> usize
-    requires { ⌜ FilesById (now «data_files») n (now «delete_files») m ⌝ }
-    requires { ⌜ length (wordsIn (now «data_files») (now «delete_files») (placeIn (now «data_files») n (now «delete_files») m (id .0))) ≤ length (now area) ⌝ }
-    ensures { λ r. ⌜ r ≡ length (wordsIn (now («data_files» .entry)) (now («delete_files» .entry))
-        (placeIn (now («data_files» .entry)) n (now («delete_files» .entry)) m (id .0))) ⌝ }
-    ensures { λ _. ⌜ now (area .exit) ≡ overwrite (now (area .entry)) 0 (wordsIn (now («data_files» .entry)) (now («delete_files» .entry))
-        (placeIn (now («data_files» .entry)) n (now («delete_files» .entry)) m (id .0))) ⌝ }
-{
-    let mut number: u64 = ACCEPTED;
-    let part = find_file(data_files, n, delete_files, m, id, &mut number);
-    copy_part(part, area);
-    part.len()
-}
-
-// The number of the lookup that copies, on sound tables and with an answer area of so many words.
-pub fn judge_file<'a>(
+    checked: Checked,
     data_files: &'a [u64],
     delete_files: &'a [u64],
     counts: Counts,
     id: FileId,
-    area_length: usize,
-) -> u64
-    requires { ⌜ FilesById (now «data_files») (counts .«data_files») (now «delete_files») (counts .«delete_files») ⌝ }
-    ensures { λ r. ⌜ ((w : Words) → w .dataFiles ≡ now («data_files» .entry) → w .deleteFiles ≡ now («delete_files» .entry) → sound w counts ≡ true
-        → r ≡ lookupRefusal w counts «area_length» (id .0)) ⌝ }
+    area: &mut [u64],
+) -> Outcome
+    requires { ⌜ FilesLent checked (now «data_files») (now «delete_files») counts ⌝ }
+    ensures { λ r. ⌜ ((l : FilesLent checked (now («data_files» .entry)) (now («delete_files» .entry)) counts)
+        → Promise (performLookup (id .0) (l .words) counts (now (area .entry))) r (l .words) (now (area .exit))) ⌝ }
 {
     let mut number: u64 = ACCEPTED;
-    let part = find_file(
-        data_files,
-        counts.data_files,
-        delete_files,
-        counts.delete_files,
-        id,
-        &mut number,
-    );
+    let part = find_file(checked, data_files, delete_files, counts, id, &mut number);
     if number != ACCEPTED {
-        return number;
+        return Outcome {
+            number,
+            place: 0,
+            length: 0,
+            counts,
+        };
     }
-    if area_length < part.len() {
-        return SHORT_ANSWER_AREA;
+    let answer = copy_part(part, area);
+    Outcome {
+        number: answer.number,
+        place: 0,
+        length: answer.length,
+        counts,
     }
-    ACCEPTED
 }

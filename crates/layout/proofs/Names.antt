@@ -1,16 +1,16 @@
 -- Names in their places: what is left of a place, or of a padded name, from its byte k on.
 use Prim.Native.Nat.{ℕ, _+_, _*_, _≤_, _<_}
 use mathlib.Core.Path.{_≡_, refl, _∙_}
-use mathlib.Core.Bool.{true, false, and-false}
+use mathlib.Core.Bool.{false, and-false}
 use mathlib.Core.List.{List, [], _∷_}
 use native.Mathlib.Nat.{add-zero}
 use native.Mathlib.Omega.{arith}
 use borrow.Author.Tests.{ne-eqb}
+use lib.Dec.{eqb}
 use lib.Seq.{getD-take, getD-drop}
 use lib.ListN.{length, getD, drop, length-append, length-replicate, length-take, length-drop, drop-of-length-le}
-use Rattle.lists.specs.Lists.{all}
-use Rattle.lists.proofs.Windows.{rest-step, part-step, part-end, getD-padded}
-use Rattle.layout.specs.Names.{nameSize, nameAt, isNameByte, isZero, namedThenZero, isName, padded}
+use Rattle.lists.proofs.Windows.{rest-step, part-step, part-end, agree-shorter, getD-padded}
+use Rattle.layout.specs.Names.{nameSize, nameAt, namedThenZero, isName, padded, sameName}
 
 module _ (run : List ℕ) (i : ℕ) (fits : nameSize * i + nameSize ≤ length run) where
   first : getD (nameAt run i) 0 0 ≡ getD run (nameSize * i) 0
@@ -30,6 +30,11 @@ module _ (run : List ℕ) (i : ℕ) (fits : nameSize * i + nameSize ≤ length r
   pub name-more : (getD run (nameSize * i) 0 ≡ 0 → ⊥) → isName (nameAt run i) ≡ namedThenZero (nameAt run i)
   unfolding isName
   name-more n = rw (first, ne-eqb _ _ n, whole) refl
+
+-- a name that is longer than its place is the name of none
+pub too-long : (run : List ℕ) (i : ℕ) (name : List ℕ) → nameSize < length name → sameName (nameAt run i) (padded name) ≡ false
+unfolding sameName padded
+too-long run i name h = agree-shorter eqb (nameAt run i) _ (simp (length-take, length-append) (omega arith))
 
 pub place-end : (run : List ℕ) (i k : ℕ) → nameSize ≤ k → drop k (nameAt run i) ≡ []
 place-end run i k h = part-end run (nameSize * i) nameSize k h

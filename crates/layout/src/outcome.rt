@@ -12,6 +12,12 @@ pub struct Counts {
     pub scheduled: usize,
 }
 
+// What a commit is made under: its time.
+#[repr(C)]
+pub struct Terms {
+    pub time: u64,
+}
+
 // What a call gives: 0 or the refusal's number, its place, the answer's length in words, the catalogue record.
 #[repr(C)]
 pub struct Outcome {

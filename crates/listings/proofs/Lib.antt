@@ -1,4 +1,4 @@
+pub mod Answers
 pub mod Blocks
+pub mod Lent
 pub mod Naming
-pub mod Refusals
-pub mod Rooms

@@ -1,25 +1,20 @@
 -- The tables of a schema that bear a name: the first one has its place, and is the answer.
-use Prim.Native.Nat.{ℕ, zero, suc, _+_, _≤_, _<_}
-use mathlib.Core.Path.{_≡_, refl, sym, ap, _∙_}
-use mathlib.Core.Bool.{Bool, true, false, _&&_}
+use Prim.Native.Nat.{ℕ, zero, suc, _<_}
+use mathlib.Core.Path.{_≡_, sym, ap, _∙_}
+use mathlib.Core.Bool.{Bool, true}
 use mathlib.Core.List.{List, [], _∷_, map}
 use native.Mathlib.Omega.{arith}
-use borrow.Author.Tests.{leb-true}
-use lib.Dec.{leb}
-use lib.ListN.{length, take, set}
+use lib.ListN.{take}
 use Rattle.lists.specs.declared.Found.{Found}
 use Rattle.lists.specs.declared.Found.the-variants.{At}
-use Rattle.lists.specs.Lists.{range, all, any, nonEmpty, filter, place}
-use Rattle.lists.proofs.Tests.{if, both}
-use Rattle.lists.proofs.Runs.{overwrite-set, overwrite-none}
+use Rattle.lists.specs.Lists.{range, nonEmpty, filter, place}
+use Rattle.lists.proofs.Tests.{if}
 use Rattle.lists.proofs.Places.{isAt, any-place, found-tells}
 use Rattle.lists.proofs.Selections.{any-both, filter-both}
 use Rattle.layout.specs.Catalog.{Versioned, Table}
-use Rattle.layout.specs.Names.{nameSize, isNameByte, isNameArgument}
 use Rattle.layout.specs.Words.{tableAt, tablesIn}
 use Rattle.ducklake.specs.Liveness.{tablesAt}
 use Rattle.ducklake.specs.Readings.{tablesNamed}
-use Rattle.listings.specs.Answers.{Listed}
 use Rattle.listings.specs.Tests.{isNamed, placeOfNamed}
 
 -- the first element that passes, where it stands
@@ -50,11 +45,3 @@ named-first run names n s schema name e q =
 pub named-inside : (run names : List ℕ) (n s schema : ℕ) (name : List ℕ) {r : Found} {i : ℕ} → r ≡ placeOfNamed (tablesIn run names n) s schema name → r ≡ At i → i < n
 unfolding placeOfNamed
 named-inside run names n s schema name e q = found-tells (tableAt run names) (isNamed schema s name) n e q .0
-
-pub name-fits : (name : List ℕ) → isNameArgument name ≡ true → length name ≤ nameSize
-unfolding isNameArgument
-name-fits name h = leb-true (length name) nameSize (both (leb 1 (length name)) (leb (length name) nameSize) (both (leb 1 (length name) && leb (length name) nameSize) (all isNameByte name) h .0) .1)
-
--- an answer of one word
-pub one-answer : (area : List ℕ) {answer : List ℕ} {x y : ℕ} → 0 < length area → answer ≡ x ∷ [] → y ≡ x → Listed answer area 1 (set area 0 y)
-one-answer area {x = x} h e f = rw (e, f) (record { count = refl; words = sym (overwrite-set area 0 x [] h ∙ overwrite-none (set area 0 x) (0 + 1)) })

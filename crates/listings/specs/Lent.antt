@@ -1,28 +1,34 @@
--- What the judges of readings rely on: the runs that they are lent, and what can be found in them.
-use Prim.Native.Nat.{ℕ, _*_, _≤_}
+-- The tables that a listing is lent runs of: their words, and what the check gave.
+use Prim.Native.Nat.{ℕ}
+use mathlib.Core.Path.{_≡_}
 use mathlib.Core.List.{List}
-use lib.ListN.{length}
 use Rattle.layout.specs.declared.outcome.Counts.{Counts}
-use Rattle.layout.specs.Fields.{schemaSize, tableSize}
-use Rattle.layout.specs.Names.{nameSize}
-use Rattle.lookup.specs.Order.{SnapshotsById, SchemasById, TablesById, ColumnsByTable}
+use Rattle.layout.specs.Words.{Words}
+use Rattle.refusals.specs.declared.checked.Checked.{Checked}
+use Rattle.refusals.specs.Checked.{checkedOf}
 
-pub record SchemasLent (snapshotRun schemaRun : List ℕ) (counts : Counts) : Type 0 where
-  pub snapshots : SnapshotsById snapshotRun (counts .snapshots)
-  pub schemas : schemaSize * counts .schemas ≤ length schemaRun
+pub record SnapshotsLent (k : Checked) (ns : List ℕ) (c : Counts) : Type 0 where
+  pub words : Words
+  pub snapshots : words .snapshots ≡ ns
+  pub checked : k ≡ checkedOf words c
 
-pub record TablesLent (snapshotRun schemaRun tableRun : List ℕ) (counts : Counts) : Type 0 where
-  pub snapshots : SnapshotsById snapshotRun (counts .snapshots)
-  pub schemas : SchemasById schemaRun (counts .schemas)
-  pub tables : tableSize * counts .tables ≤ length tableRun
+pub record SchemasLent (k : Checked) (ns ss : List ℕ) (c : Counts) : Type 0 where
+  pub words : Words
+  pub snapshots : words .snapshots ≡ ns
+  pub schemas : words .schemas ≡ ss
+  pub checked : k ≡ checkedOf words c
 
-pub record ColumnsLent (snapshotRun tableRun columnRun : List ℕ) (counts : Counts) : Type 0 where
-  pub snapshots : SnapshotsById snapshotRun (counts .snapshots)
-  pub tables : TablesById tableRun (counts .tables)
-  pub columns : ColumnsByTable columnRun (counts .columns)
+pub record TablesLent (k : Checked) (ns ss ts : List ℕ) (c : Counts) : Type 0 where
+  pub words : Words
+  pub snapshots : words .snapshots ≡ ns
+  pub schemas : words .schemas ≡ ss
+  pub tables : words .tables ≡ ts
+  pub checked : k ≡ checkedOf words c
 
-pub record NamedLent (snapshotRun schemaRun tableRun nameRun : List ℕ) (counts : Counts) : Type 0 where
-  pub snapshots : SnapshotsById snapshotRun (counts .snapshots)
-  pub schemas : SchemasById schemaRun (counts .schemas)
-  pub tables : tableSize * counts .tables ≤ length tableRun
-  pub names : nameSize * counts .tables ≤ length nameRun
+pub record NamedLent (k : Checked) (ns ss ts xs : List ℕ) (c : Counts) : Type 0 where
+  pub words : Words
+  pub snapshots : words .snapshots ≡ ns
+  pub schemas : words .schemas ≡ ss
+  pub tables : words .tables ≡ ts
+  pub tableNames : words .tableNames ≡ xs
+  pub checked : k ≡ checkedOf words c

@@ -1,5 +1,6 @@
-// What a snapshot shows of schemas, tables and columns: how much, and its ids in the answer area.
+// Readings of schemas, tables and columns, of a table by name and of a snapshot by time, in tables that were checked.
 pub mod columns;
+mod lives;
 pub mod named;
 pub mod schemas;
 pub mod tables;

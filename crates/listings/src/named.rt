@@ -1,18 +1,14 @@
 ghost use mathlib.Core.Path.{_≡_};
 ghost use mathlib.Core.Bool.{true};
-ghost use mathlib.Core.List.{map};
-ghost use Prim.Native.Nat.{_*_, _≤_, _<_};
-ghost use lib.ListN.{length, take};
+ghost use mathlib.Core.List.{_∷_, [], map};
+ghost use lib.ListN.{take};
 ghost use Rattle.lists.specs.Lists.{nonEmpty};
-ghost use Rattle.layout.specs.Fields.{tableSize};
-ghost use Rattle.layout.specs.Names.{nameSize};
-ghost use Rattle.layout.specs.Words.{Words, tablesIn};
-ghost use Rattle.ducklake.specs.Soundness.{sound};
+ghost use Rattle.layout.specs.Words.{tablesIn};
 ghost use Rattle.ducklake.specs.Readings.{Query, tablesNamed};
-ghost use Rattle.ducklake.specs.Calls.{queryAt, readingRefusal};
-ghost use Rattle.listings.specs.Answers.{Listed};
+ghost use Rattle.ducklake.specs.Calls.{queryAt, performReading, Promise};
+ghost use Rattle.refusals.specs.Checked.{unanswered};
 ghost use Rattle.listings.specs.Lent.{NamedLent};
-ghost use Rattle.listings.specs.Tests.{placeOfNamed};
+ghost use Rattle.listings.specs.Tests.{TablesWithNames, placeOfNamed};
 use crate::tables::is_in_schema;
 use layout::number::CatalogId;
 use layout::number::SnapshotId;
@@ -20,16 +16,20 @@ use layout::outcome::ACCEPTED;
 use layout::outcome::Counts;
 use layout::outcome::NOT_LIVE;
 use layout::outcome::NOT_RETAINED;
-use layout::outcome::SHORT_ANSWER_AREA;
+use layout::outcome::NOT_SOUND;
+use layout::outcome::Outcome;
 use lists::Found;
 use lookup::live::is_retained;
 use lookup::live::schema_is_live;
 use names::is_name_argument;
 use names::is_named;
+use readings::answer::answer_one;
 use records::table::table_id;
+use refusals::checked::Checked;
+use refusals::first::first_refusal;
 
 // The place of the table of a schema that bears the name at s: of the first one, and sound tables have no other.
-pub fn find_named_table(
+fn find_named_table(
     tables: &[u64],
     names: &[u8],
     n: usize,
@@ -37,7 +37,7 @@ pub fn find_named_table(
     name: &[u8],
     s: SnapshotId,
 ) -> Found
-    requires { ⌜ (tableSize * n ≤ length (now tables)) × (nameSize * n ≤ length (now names)) × (length (now name) ≤ nameSize) ⌝ }
+    requires { ⌜ TablesWithNames (now tables) (now names) n ⌝ }
     ensures { λ r. ⌜ r ≡ placeOfNamed (tablesIn (now (tables .entry)) (now (names .entry)) n) (s .0) (schema .0) (now (name .entry)) ⌝ }
 {
     let mut i: usize = 0;
@@ -52,33 +52,50 @@ pub fn find_named_table(
     Found::Nothing
 }
 
-// Its id, in the first word of the answer area.
-pub fn write_named_table(
+// Whether there is one.
+fn is_table_named(
     tables: &[u64],
     names: &[u8],
     n: usize,
     schema: CatalogId,
     name: &[u8],
     s: SnapshotId,
-    area: &mut [u64],
-) -> usize
-    requires { ⌜ (tableSize * n ≤ length (now tables)) × (nameSize * n ≤ length (now names)) × (length (now name) ≤ nameSize) ⌝ }
-    requires { ⌜ (nonEmpty (tablesNamed (tablesIn (now tables) (now names) n) (s .0) (schema .0) (now name)) ≡ true) × (0 < length (now area)) ⌝ }
-    ensures { λ r. ⌜ Listed
-        (take 1 (map (λ t. t .id) (tablesNamed (tablesIn (now (tables .entry)) (now (names .entry)) n) (s .0) (schema .0) (now (name .entry)))))
-        (now (area .entry)) r (now (area .exit)) ⌝ }
+) -> bool
+    requires { ⌜ TablesWithNames (now tables) (now names) n ⌝ }
+    ensures { λ r. ⌜ r ≡ nonEmpty (tablesNamed (tablesIn (now (tables .entry)) (now (names .entry)) n) (s .0) (schema .0) (now (name .entry))) ⌝ }
+{
+    let found = find_named_table(tables, names, n, schema, name, s);
+    match found {
+        Found::At(_) => true,
+        Found::Nothing => false,
+    }
+}
+
+// Its id, where there is one.
+fn named_table_id(
+    tables: &[u64],
+    names: &[u8],
+    n: usize,
+    schema: CatalogId,
+    name: &[u8],
+    s: SnapshotId,
+) -> u64
+    requires { ⌜ TablesWithNames (now tables) (now names) n ⌝ }
+    requires { ⌜ nonEmpty (tablesNamed (tablesIn (now tables) (now names) n) (s .0) (schema .0) (now name)) ≡ true ⌝ }
+    ensures { λ r. ⌜ take 1 (map (λ t. t .id) (tablesNamed (tablesIn (now (tables .entry)) (now (names .entry)) n) (s .0) (schema .0) (now (name .entry))))
+        ≡ r ∷ [] ⌝ }
 {
     let found = find_named_table(tables, names, n, schema, name, s);
     if let Found::At(i) = found {
         let id = table_id(tables, i);
-        area[0] = id.0;
-        return 1;
+        return id.0;
     }
     0
 }
 
-// The number of the reading, on sound tables and with an answer area of so many words.
-pub fn judge_named_table(
+// The number of a reading of a table by name, before its answer's length is known. "A badly formed name in a lookup gives 6."
+fn refuse_named_table(
+    checked: Checked,
     snapshots: &[u64],
     schemas: &[u64],
     tables: &[u64],
@@ -87,31 +104,66 @@ pub fn judge_named_table(
     schema: CatalogId,
     name: &[u8],
     s: SnapshotId,
-    area_length: usize,
 ) -> u64
-    requires { ⌜ NamedLent (now snapshots) (now schemas) (now tables) (now names) counts ⌝ }
-    ensures { λ r. ⌜ ((w : Words) → w .snapshots ≡ now (snapshots .entry) → w .schemas ≡ now (schemas .entry) → w .tables ≡ now (tables .entry)
-        → w .tableNames ≡ now (names .entry)
-        → sound w counts ≡ true → r ≡ readingRefusal w counts «area_length» (queryAt (s .0) (Query.tableNamed (schema .0) (now (name .entry))))) ⌝ }
+    requires { ⌜ NamedLent checked (now snapshots) (now schemas) (now tables) (now names) counts ⌝ }
+    ensures { λ r. ⌜ ((l : NamedLent checked (now (snapshots .entry)) (now (schemas .entry)) (now (tables .entry)) (now (names .entry)) counts)
+        → r ≡ unanswered (l .words) counts (queryAt (s .0) (Query.tableNamed (schema .0) (now (name .entry))))) ⌝ }
 {
+    if !checked.sound {
+        return NOT_SOUND;
+    }
     let there = is_retained(snapshots, counts.snapshots, s);
-    if !there {
-        return NOT_RETAINED;
-    }
     let live = schema_is_live(schemas, counts.schemas, schema, s);
-    if !live {
-        return NOT_LIVE;
-    }
     let formed = is_name_argument(name);
-    if !formed {
-        return NOT_LIVE;
+    let named = is_table_named(tables, names, counts.tables, schema, name, s);
+    let numbers = [NOT_RETAINED, NOT_LIVE, NOT_LIVE];
+    let passed = [there, live, formed & named];
+    first_refusal(&numbers, &passed)
+}
+
+// The table of a schema that bears a name at a retained snapshot, of tables that were checked.
+pub fn find_table_by_name(
+    checked: Checked,
+    snapshots: &[u64],
+    schemas: &[u64],
+    tables: &[u64],
+    names: &[u8],
+    counts: Counts,
+    s: SnapshotId,
+    schema: CatalogId,
+    name: &[u8],
+    area: &mut [u64],
+) -> Outcome
+    requires { ⌜ NamedLent checked (now snapshots) (now schemas) (now tables) (now names) counts ⌝ }
+    ensures { λ r. ⌜ ((l : NamedLent checked (now (snapshots .entry)) (now (schemas .entry)) (now (tables .entry)) (now (names .entry)) counts)
+        → Promise (performReading (queryAt (s .0) (Query.tableNamed (schema .0) (now (name .entry)))) (l .words) counts (now (area .entry)))
+        r (l .words) (now (area .exit))) ⌝ }
+{
+    let number = refuse_named_table(
+        checked,
+        snapshots,
+        schemas,
+        tables,
+        names,
+        counts,
+        schema,
+        name,
+        s,
+    );
+    if number != ACCEPTED {
+        return Outcome {
+            number,
+            place: 0,
+            length: 0,
+            counts,
+        };
     }
-    let found = find_named_table(tables, names, counts.tables, schema, name, s);
-    let Found::At(_) = found else {
-        return NOT_LIVE;
-    };
-    if area_length < 1 {
-        return SHORT_ANSWER_AREA;
+    let id = named_table_id(tables, names, counts.tables, schema, name, s);
+    let answer = answer_one(id, area);
+    Outcome {
+        number: answer.number,
+        place: 0,
+        length: answer.length,
+        counts,
     }
-    ACCEPTED
 }

@@ -1,50 +1,91 @@
 ghost use mathlib.Core.Path.{_≡_};
 ghost use mathlib.Core.Bool.{true};
-ghost use mathlib.Core.List.{_∷_, []};
-ghost use Prim.Native.Nat.{_<_};
-ghost use lib.ListN.{length};
 ghost use Rattle.lists.specs.Lists.{nonEmpty, highest};
-ghost use Rattle.layout.specs.Words.{Words, snapshotsIn};
-ghost use Rattle.ducklake.specs.Soundness.{sound};
+ghost use Rattle.layout.specs.Words.{snapshotsIn};
 ghost use Rattle.ducklake.specs.Readings.{snapshotsByTime};
-ghost use Rattle.ducklake.specs.Calls.{byTime, readingRefusal};
+ghost use Rattle.ducklake.specs.Calls.{byTime, performReading, Promise};
 ghost use Rattle.lookup.specs.Order.{SnapshotsById, SnapshotsByTime};
-ghost use Rattle.listings.specs.Answers.{Listed};
+ghost use Rattle.refusals.specs.Checked.{unanswered};
+ghost use Rattle.listings.specs.Lent.{SnapshotsLent};
 use layout::outcome::ACCEPTED;
 use layout::outcome::Counts;
 use layout::outcome::NO_SNAPSHOT_BY_THEN;
-use layout::outcome::SHORT_ANSWER_AREA;
+use layout::outcome::NOT_SOUND;
+use layout::outcome::Outcome;
 use lists::Found;
 use lookup::find::latest_by;
+use readings::answer::answer_one;
 use records::snapshot::snapshot_id;
+use refusals::checked::Checked;
+use refusals::first::first_refusal;
 
-// The id of the latest snapshot at or before t, in the first word of the answer area.
-pub fn write_latest_by(snapshots: &[u64], n: usize, t: u64, area: &mut [u64]) -> usize
+// Whether there is a snapshot at or before t.
+fn is_snapshot_by(snapshots: &[u64], n: usize, t: u64) -> bool
     requires { ⌜ SnapshotsById (now snapshots) n × SnapshotsByTime (now snapshots) n ⌝ }
-    requires { ⌜ (nonEmpty (snapshotsByTime (snapshotsIn (now snapshots) n) t) ≡ true) × (0 < length (now area)) ⌝ }
-    ensures { λ r. ⌜ Listed (highest (snapshotsByTime (snapshotsIn (now (snapshots .entry)) n) t) ∷ []) (now (area .entry)) r (now (area .exit)) ⌝ }
+    ensures { λ r. ⌜ r ≡ nonEmpty (snapshotsByTime (snapshotsIn (now (snapshots .entry)) n) t) ⌝ }
+{
+    let found = latest_by(snapshots, n, t);
+    match found {
+        Found::At(_) => true,
+        Found::Nothing => false,
+    }
+}
+
+// The id of the latest one, where there is one.
+fn latest_id_by(snapshots: &[u64], n: usize, t: u64) -> u64
+    requires { ⌜ SnapshotsById (now snapshots) n × SnapshotsByTime (now snapshots) n ⌝ }
+    requires { ⌜ nonEmpty (snapshotsByTime (snapshotsIn (now snapshots) n) t) ≡ true ⌝ }
+    ensures { λ r. ⌜ r ≡ highest (snapshotsByTime (snapshotsIn (now (snapshots .entry)) n) t) ⌝ }
 {
     let found = latest_by(snapshots, n, t);
     if let Found::At(i) = found {
         let id = snapshot_id(snapshots, i);
-        area[0] = id.0;
-        return 1;
+        return id.0;
     }
     0
 }
 
-// The number of the reading, on sound tables and with an answer area of so many words.
-pub fn judge_latest_by(snapshots: &[u64], counts: Counts, t: u64, area_length: usize) -> u64
-    requires { ⌜ SnapshotsById (now snapshots) (counts .snapshots) × SnapshotsByTime (now snapshots) (counts .snapshots) ⌝ }
-    ensures { λ r. ⌜ ((w : Words) → w .snapshots ≡ now (snapshots .entry) → sound w counts ≡ true
-        → r ≡ readingRefusal w counts «area_length» (byTime t)) ⌝ }
+// The number of a reading by time, before its answer's length is known.
+fn refuse_by_time(checked: Checked, snapshots: &[u64], counts: Counts, t: u64) -> u64
+    requires { ⌜ SnapshotsLent checked (now snapshots) counts ⌝ }
+    ensures { λ r. ⌜ ((l : SnapshotsLent checked (now (snapshots .entry)) counts) → r ≡ unanswered (l .words) counts (byTime t)) ⌝ }
 {
-    let found = latest_by(snapshots, counts.snapshots, t);
-    let Found::At(_) = found else {
-        return NO_SNAPSHOT_BY_THEN;
-    };
-    if area_length < 1 {
-        return SHORT_ANSWER_AREA;
+    if !checked.sound {
+        return NOT_SOUND;
     }
-    ACCEPTED
+    let there = is_snapshot_by(snapshots, counts.snapshots, t);
+    let numbers = [NO_SNAPSHOT_BY_THEN];
+    let passed = [there];
+    first_refusal(&numbers, &passed)
+}
+
+// The latest snapshot at or before a time, of tables that were checked.
+pub fn find_snapshot_by_time(
+    checked: Checked,
+    snapshots: &[u64],
+    counts: Counts,
+    t: u64,
+    area: &mut [u64],
+) -> Outcome
+    requires { ⌜ SnapshotsLent checked (now snapshots) counts ⌝ }
+    ensures { λ r. ⌜ ((l : SnapshotsLent checked (now (snapshots .entry)) counts)
+        → Promise (performReading (byTime t) (l .words) counts (now (area .entry))) r (l .words) (now (area .exit))) ⌝ }
+{
+    let number = refuse_by_time(checked, snapshots, counts, t);
+    if number != ACCEPTED {
+        return Outcome {
+            number,
+            place: 0,
+            length: 0,
+            counts,
+        };
+    }
+    let id = latest_id_by(snapshots, counts.snapshots, t);
+    let answer = answer_one(id, area);
+    Outcome {
+        number: answer.number,
+        place: 0,
+        length: answer.length,
+        counts,
+    }
 }

@@ -1,15 +1,15 @@
 -- Layouts that read what they write: tables of records in runs.
 use Prim.Native.Nat.{ℕ, zero, suc, _+_, _*_, _-_, _≤_, max}
-use mathlib.Core.Path.{_≡_, refl, sym, ap, ap₂, _∙_}
-use mathlib.Core.List.{List, [], _∷_, _++_, map, flatMap, append-assoc, append-nil}
+use mathlib.Core.Path.{_≡_, refl, ap, ap₂, _∙_}
+use mathlib.Core.List.{List, [], _∷_, _++_, map, flatMap, append-assoc}
 use native.Mathlib.Omega.{arith}
 use native.Mathlib.Nat.{add-comm, mul-zero, mul-suc, zero-add}
 use lib.ListN.{length, getD, take, drop, replicate, length-append, length-drop}
 use lib.Seq.{drop-cons, drop-at, drop-drop, take-add, take-all}
 use Rattle.lists.specs.Lists.{range}
-use Rattle.lists.specs.Runs.{from, overwrite, replace, Layout, at, table, field, fields}
-use Rattle.lists.proofs.Selections.{flatMap-append, map-ext}
-use Rattle.lists.proofs.Runs.{overwrite-past, replace-more, replace-kept}
+use Rattle.lists.specs.Runs.{replace, Layout, at, table, field, fields}
+use Rattle.lists.proofs.Selections.{map-ext}
+use Rattle.lists.proofs.Runs.{replace-kept}
 
 -- a record has `size` words, and reading and writing undo each other
 pub record Lawful {A : Type 0} (L : Layout A) : Type 0 where
@@ -75,16 +75,3 @@ module _ {A : Type 0} (L : Layout A) (F : Lawful L) where
   pub table-replace : (old : List ℕ) (used : ℕ) (rs : List A) → table L (replace old used (flatMap (L .words) rs)) (length rs) ≡ rs
   unfolding replace
   table-replace old used rs = read-of-words rs (replace old used (flatMap (L .words) rs)) (replicate (used - length (flatMap (L .words) rs)) 0 ++ drop (max used (length (flatMap (L .words) rs))) old) 0 (rw mul-zero refl)
-
-  from-agree : (w v : List ℕ) (k i : ℕ) → drop (L .size * i) v ≡ drop (L .size * i) w → map (at L v) (range i k) ≡ map (at L w) (range i k)
-  unfolding range
-  from-agree w v zero i e = refl
-  from-agree w v (suc k) i e = ap₂ {C = List A} _∷_ (F .read-drop v (L .size * i) ∙ (ap (λ (u : List ℕ). L .read u 0) e ∙ sym (F .read-drop w (L .size * i)))) (from-agree w v k (suc i) next)
-    where
-      next : drop (L .size * suc i) v ≡ drop (L .size * suc i) w
-      next = rw (mul-suc, ← drop-drop (L .size) (L .size * i) v, e, drop-drop) refl
-
-  -- what is written before the place i leaves the records from i on
-  pub from-past : (w : List ℕ) (k : ℕ) (a : List ℕ) (i n : ℕ) → k ≤ length w → k + length a ≤ L .size * i
-      → from (at L (overwrite w k a)) i n ≡ from (at L w) i n
-  from-past w k a i n h g = from-agree w (overwrite w k a) (n - i) i (overwrite-past w k a (L .size * i) h g)

@@ -1,19 +1,18 @@
 -- Loops: what each comes to from the present turn on. The laws `-start`, `-pass`, `-fail`, `-next`, `-end` are cited at a function's needs.
-use Prim.Native.Nat.{ℕ, zero, suc, _+_, _*_, _-_, _≤_, _<_}
+use Prim.Native.Nat.{ℕ, zero, suc, _+_, _-_, _≤_, _<_}
 use mathlib.Core.Path.{_≡_, refl, sym, ap, ap₂, _∙_}
-use mathlib.Core.List.{List, [], _∷_, _++_, map, flatMap, append-assoc, append-nil}
-use mathlib.Core.Bool.{Bool, true, false, not, and-false}
+use mathlib.Core.List.{List, [], _∷_, map}
+use mathlib.Core.Bool.{Bool, true, false, not}
 use native.Mathlib.Omega.{arith}
 use native.Mathlib.Numerals.{add-one}
-use native.Mathlib.Nat.{mul-zero, mul-le-mul-left, mul-suc, add-zero, add-suc, zero-add, suc-add}
+use native.Mathlib.Nat.{add-zero, zero-add}
 use lib.ListN.{length, take, set, replicate, length-map}
 use lib.Seq.{take-all}
 use Rattle.lists.specs.Lists.{range, all, pairwise, chained, filter, place}
 use Rattle.lists.specs.declared.Found.the-variants.{At, Nothing}
-use Rattle.lists.specs.Runs.{from, overwrite, replace, Layout, at, table}
+use Rattle.lists.specs.Runs.{from, overwrite, at}
 use Rattle.lists.proofs.Tests.{passed, failed}
-use Rattle.lists.proofs.Runs.{overwrite-none, overwrite-set, overwrite-front, overwrite-over, overwrite-same, replace-same, replace-less, replace-past, record-fits}
-use Rattle.lists.proofs.Layouts.{Lawful, words-of-length, words-at, from-past}
+use Rattle.lists.proofs.Runs.{overwrite-none, overwrite-set, overwrite-front}
 
 pub length-range : (i k : ℕ) → length (range i k) ≡ k
 unfolding range
@@ -226,29 +225,3 @@ module _ {A : Type 0} (f : ℕ → A) (p : A → Bool) (n : ℕ) where
     pub sent-end : (out : List ℕ) (k i : ℕ) → n ≤ i → sent out k i ≡ out
     unfolding sent
     sent-end out k i h = rw (filter-end f p i n h) (overwrite-none out k)
-
-module _ {A : Type 0} (L : Layout A) (F : Lawful L) where
-  -- a loop that writes each record anew in its place: what the run comes to from the turn i on
-  module _ (g : A → A) (n : ℕ) where
-    pub mapped : List ℕ → ℕ → List ℕ
-    mapped w i = overwrite w (L .size * i) (flatMap (L .words) (map g (from (at L w) i n)))
-
-    pub mapped-start : (w : List ℕ) → L .size * n ≤ length w → replace w (L .size * n) (flatMap (L .words) (map g (table L w n))) ≡ mapped w 0
-    unfolding mapped
-    mapped-start w h = rw (mul-zero, ← from-all (at L w) n) (replace-same w _ _ (rw (words-of-length L F, length-map, length-map, length-range) refl))
-
-    pub mapped-next : (w v : List ℕ) (i : ℕ) → i < n → L .size * n ≤ length w → v ≡ overwrite w (L .size * i) (L .words (g (at L w i)))
-        → mapped w i ≡ mapped v (i + 1)
-    unfolding flatMap mapped
-    mapped-next w v i h s e =
-        let m : L .size * i + L .size ≤ length w = record-fits (L .size) h s in
-        let l : length (L .words (g (at L w i))) ≡ L .size = F .words-length _ in
-        rw (e, from-step (at L w) i n h, overwrite-over w (L .size * i) (L .words (g (at L w i))) _ (omega arith), from-past L F w (L .size * i) (L .words (g (at L w i))) (i + 1) n (omega arith) (omega arith), l, add-one, mul-suc) refl
-
-    pub mapped-skip : (w : List ℕ) (i : ℕ) → i < n → L .size * n ≤ length w → g (at L w i) ≡ at L w i → mapped w i ≡ mapped w (i + 1)
-    unfolding flatMap mapped
-    mapped-skip w i h s e = rw (from-step (at L w) i n h, e, words-at L F w i (record-fits (L .size) h s), overwrite-same w (L .size * i) (L .size) _ (record-fits (L .size) h s), add-one, mul-suc) refl
-
-    pub mapped-end : (w : List ℕ) (i : ℕ) → n ≤ i → mapped w i ≡ w
-    unfolding flatMap mapped
-    mapped-end w i h = rw (from-end (at L w) i n h) (overwrite-none w _)

@@ -9,7 +9,7 @@ use lib.ListN.{length, length-append}
 use borrow.Author.Tests.{lt-ltb, eqb-true, eq-eqb}
 use Rattle.lists.specs.Lists.{range, all, any, pairwise, filter, last, has, sum, agree}
 use mathlib.Core.Logic.{_⊎_, inl, inr}
-use Rattle.lists.proofs.Tests.{if, either, both, and, same-test, not-or, eqb-swap}
+use Rattle.lists.proofs.Tests.{if, either, both, and, same-test, not-or}
 use Rattle.lists.proofs.Members.{In, here, next, in-cons, in-nil, Pairwise, none, more, All, each, any-in, in-any, Any, in-all, all-in}
 
 -- flatMap
@@ -201,9 +201,6 @@ pub all-swap : {A B : Type 0} (r : A → B → Bool) (xs : List A) (ys : List B)
 unfolding all
 all-swap r [] ys = sym (in-all (λ y. true) ys (λ y m. refl))
 all-swap r (x ∷ xs) ys = rw (all-swap r xs ys) (all-both (r x) (λ y. all (λ x. r x y) xs) ys)
-
-pub all-all-append : {A B : Type 0} (r : A → B → Bool) (xs : List A) (ys zs : List B) → all (λ x. all (r x) (ys ++ zs)) xs ≡ (all (λ x. all (r x) ys) xs && all (λ x. all (r x) zs) xs)
-all-all-append r xs ys zs = all-ext _ _ xs (λ x m. all-append (r x) ys zs) ∙ sym (all-both (λ x. all (r x) ys) (λ x. all (r x) zs) xs)
 
 pub pairwise-append : {A : Type 0} (r : A → A → Bool) (xs ys : List A) → pairwise r (xs ++ ys) ≡ (pairwise r xs && (pairwise r ys && all (λ x. all (r x) ys) xs))
 unfolding all pairwise

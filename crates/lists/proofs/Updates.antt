@@ -1,21 +1,19 @@
 -- Records changed in their places by their words: a loop that sets one word of some records, and what that is for a table.
 use Prim.Native.Nat.{ℕ, suc, _+_, _*_, _-_, _≤_, _<_}
-use mathlib.Core.Path.{_≡_, refl, sym, ap, ap₂, _∙_}
+use mathlib.Core.Path.{_≡_, refl, sym, ap, _∙_}
 use mathlib.Core.Bool.{true, false, _&&_}
-use mathlib.Core.List.{List, [], _++_, map, flatMap, append-nil}
+use mathlib.Core.List.{List, [], flatMap, append-nil}
 use native.Mathlib.Omega.{arith}
 use native.Mathlib.Nat.{mul-zero, mul-suc, mul-le-mul-left}
 use native.Mathlib.Numerals.{add-one}
 use lib.Dec.{eqb}
-use lib.ListN.{length, getD, take, drop, set, length-take, length-drop, length-set, length-map}
+use lib.ListN.{length, getD, take, drop, set, length-take, length-drop, length-set}
 use lib.Seq.{getD-take, getD-drop, take-set-le, drop-set-lt, take-set-lt, drop-set-add}
 use Rattle.lists.specs.Lists.{range}
-use Rattle.lists.specs.Runs.{field, overwrite, replace, Layout, at, table, setWhere, eachRecord}
-use Rattle.lists.proofs.Loops.{length-range}
-use Rattle.lists.proofs.Layouts.{Lawful, words-of-length, words-at}
-use Rattle.lists.proofs.Members.{In, in-range}
-use Rattle.lists.proofs.Runs.{overwrite-none, overwrite-over, overwrite-past, overwrite-same, replace-same, record-fits}
-use Rattle.lists.proofs.Selections.{flatMap-map, flatMap-ext}
+use Rattle.lists.specs.Runs.{field, overwrite, at, table, setWhere, eachRecord}
+use Rattle.lists.proofs.Members.{in-range}
+use Rattle.lists.proofs.Runs.{overwrite-none, overwrite-over, overwrite-past, overwrite-same, record-fits}
+use Rattle.lists.proofs.Selections.{flatMap-ext}
 
 -- the words of the record at place i
 abbrev pub record-at : ℕ → List ℕ → ℕ → List ℕ
@@ -97,13 +95,3 @@ module _ (size key at k old new n : ℕ) (p : key < size) (q : at < size) (w : L
       let c = keep-one e f t in
       let m : size * i + size ≤ length w = record-fits size h s in
       changing-next size g n w w i h (ap length c ∙ record-length size w i m) s (sym (ap (overwrite w (size * i)) c ∙ record-same size w (size * i) m))
-
--- for a table: g changes a record as f changes its words
-pub table-changed : {A : Type 0} (L : Layout A) (F : Lawful L) (g : A → A) (f : List ℕ → List ℕ) → ((r : A) → L .words (g r) ≡ f (L .words r))
-    → (w : List ℕ) (n : ℕ) → L .size * n ≤ length w → eachRecord (L .size) f w n ≡ replace w (L .size * n) (flatMap (L .words) (map g (table L w n)))
-unfolding eachRecord
-table-changed L F g f e w n h =
-    ap (overwrite w 0) (sym (flatMap-map (λ r. L .words (g r)) (L .words) g (table L w n) (λ r m. refl)
-    ∙ flatMap-map (λ i. f (record-at (L .size) w i)) (λ r. L .words (g r)) (at L w) (range 0 n)
-    (λ i m. e (at L w i) ∙ ap f (words-at L F w i (record-fits (L .size) (omega (arith, in-range 0 n m)) h)))))
-    ∙ sym (replace-same w (L .size * n) (flatMap (L .words) (map g (table L w n))) (words-of-length L F (map g (table L w n)) ∙ ap (λ x. L .size * x) (length-map (table L w n) g ∙ (length-map (range 0 n) (at L w) ∙ length-range 0 n))))

@@ -1,7 +1,7 @@
 -- What is left of a list, or of a part of it, from the place k on; tests and writes by its first element.
 use Prim.Native.Nat.{ℕ, zero, suc, _+_, _≤_, _<_}
 use mathlib.Core.Path.{_≡_, refl, _∙_}
-use mathlib.Core.Bool.{Bool, true, false}
+use mathlib.Core.Bool.{Bool, true, false, and-false}
 use mathlib.Core.List.{List, [], _∷_, _++_}
 use native.Mathlib.Omega.{arith}
 use native.Mathlib.Nat.{add-assoc}
@@ -58,6 +58,14 @@ module _ {A B : Type 0} (r : A → B → Bool) {xs : List A} {ys : List B} where
   pub agree-none : xs ≡ [] → ys ≡ [] → agree r xs ys ≡ true
   unfolding agree
   agree-none s t = rw (s, t) refl
+
+-- a list agrees with no longer one
+pub agree-shorter : {A B : Type 0} (r : A → B → Bool) (xs : List A) (ys : List B) → length xs < length ys → agree r xs ys ≡ false
+unfolding agree
+agree-shorter r [] [] h = absurd (omega arith)
+agree-shorter r [] (y ∷ ys) h = refl
+agree-shorter r (x ∷ xs) [] h = absurd (omega arith)
+agree-shorter r (x ∷ xs) (y ∷ ys) h = rw (agree-shorter r xs ys (omega arith)) (and-false (r x y))
 
 -- a loop that writes a list over a run, word by word from a on
 pub overwrite-next : (w : List ℕ) (a k v : ℕ) {xs ys : List ℕ} → a + k < length w → xs ≡ v ∷ ys → overwrite w (a + k) xs ≡ overwrite (set w (a + k) v) (a + (k + 1)) ys

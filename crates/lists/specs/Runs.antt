@@ -2,7 +2,7 @@
 use Prim.Native.Nat.{ℕ, _+_, _*_, _-_, _≤_, _<_, max}
 use mathlib.Core.Path.{_≡_}
 use mathlib.Core.List.{List, _++_, map, flatMap}
-use mathlib.Core.Bool.{Bool, cond, _&&_}
+use mathlib.Core.Bool.{cond, _&&_}
 use lib.Dec.{eqb}
 use lib.ListN.{length, getD, take, drop, set, replicate}
 use denote.Ref.{RefT}
@@ -69,6 +69,10 @@ pub record Together (f : ℕ → ℕ) (n k a e : ℕ) : Type 0 where
 -- the words of a record with the word `at` set to `new`, where its word `key` is k and its word `at` is `old`
 unfoldable pub setWhere : ℕ → ℕ → ℕ → ℕ → ℕ → List ℕ → List ℕ
 setWhere key at k old new r = cond (eqb (getD r key 0) k && eqb (getD r at 0) old) (set r at new) r
+
+-- the words of a record with n added to the word `at`, where its word `key` is k
+unfoldable pub addWhere : ℕ → ℕ → ℕ → ℕ → List ℕ → List ℕ
+addWhere key at k n r = cond (eqb (getD r key 0) k) (set r at (getD r at 0 + n)) r
 
 -- a run in which g has changed the words of each of the first n records
 unfoldable pub eachRecord : ℕ → (List ℕ → List ℕ) → List ℕ → ℕ → List ℕ

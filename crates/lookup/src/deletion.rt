@@ -10,11 +10,11 @@ ghost use Rattle.layout.specs.Words.{deleteFilesIn};
 ghost use Rattle.ducklake.specs.Liveness.{live};
 use crate::life::is_live;
 use crate::life::life_at;
-use file_records::delete_file::delete_file_data_file;
 use layout::number::FileId;
 use layout::number::SnapshotId;
 use layout::record::DeleteFileRecord;
 use lists::Found;
+use records::delete_file::delete_file_data_file;
 
 // The place of the delete file that a data file has at s: of the first one, and sound tables have no other.
 pub fn find_live_delete_file(

@@ -6,7 +6,7 @@ ghost use Rattle.lists.specs.Lists.{range};
 ghost use Rattle.lists.specs.Runs.{overwrite};
 ghost use Rattle.layout.specs.Words.{positionLimit, positionsBefore, positionsAt};
 ghost use Rattle.lookup.specs.Positions.{PositionsWithin, PositionsFrom};
-use file_records::delete_file::delete_file_delete_count;
+use records::delete_file::delete_file_delete_count;
 
 // Where the positions of each of n delete files begin.
 pub fn position_starts(delete_files: &[u64], n: usize, starts: &mut [usize])

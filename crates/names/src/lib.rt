@@ -109,8 +109,8 @@ fn padded_byte(name: &[u8], k: usize) -> u8
     0
 }
 
-// Whether the place i holds the name, padded.
-pub fn is_named(names: &[u8], i: usize, name: &[u8]) -> bool
+// Whether the place i holds a name that is no longer than a place, padded.
+fn holds_name(names: &[u8], i: usize, name: &[u8]) -> bool
     requires { ⌜ (nameSize * i + nameSize ≤ length (now names)) × (length (now name) ≤ nameSize) ⌝ }
     ensures { λ r. ⌜ r ≡ sameName (nameAt (now (names .entry)) i) (padded (now (name .entry))) ⌝ }
 {
@@ -124,6 +124,17 @@ pub fn is_named(names: &[u8], i: usize, name: &[u8]) -> bool
         k += 1;
     }
     true
+}
+
+// Whether the place i holds the name, padded.
+pub fn is_named(names: &[u8], i: usize, name: &[u8]) -> bool
+    requires { ⌜ nameSize * i + nameSize ≤ length (now names) ⌝ }
+    ensures { λ r. ⌜ r ≡ sameName (nameAt (now (names .entry)) i) (padded (now (name .entry))) ⌝ }
+{
+    if NAME_SIZE < name.len() {
+        return false;
+    }
+    holds_name(names, i, name)
 }
 
 // The name, padded with zero bytes, in the place i.

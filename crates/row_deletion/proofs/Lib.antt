@@ -1,4 +1,9 @@
 pub mod Effects
+pub mod Fits
 pub mod Found
 pub mod Judges
+pub mod Lent
+pub mod Merging
+pub mod Offending
+pub mod Parts
 pub mod Relied

@@ -1,2 +1,3 @@
-pub mod Deletion
+pub mod Deleted
+pub mod Lent
 pub mod Relied

@@ -6,14 +6,14 @@ ghost use Rattle.lists.specs.Runs.{overwrite};
 ghost use Rattle.layout.specs.Fields.{deleteFileSize};
 ghost use Rattle.layout.specs.Catalog.{deleteFileRecord};
 ghost use Rattle.layout.specs.Records.{deleteFileWords};
-ghost use Rattle.call_laws.specs.Rewritten.{opened};
-use file_records::delete_file::write_delete_file;
+ghost use Rattle.call_laws.specs.Writes.{opened};
 use layout::number::ABSENT;
 use layout::number::CatalogId;
 use layout::number::FileId;
 use layout::number::SnapshotId;
 use layout::record::DeleteFileRecord;
 use layout::record::Uuid;
+use records::delete_file::write_delete_file;
 
 // A delete file of so many positions that begins at a snapshot, behind the first n.
 pub fn append_delete_file(

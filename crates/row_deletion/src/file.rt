@@ -3,7 +3,6 @@ ghost use Rattle.layout.specs.Catalog.{dataFileOf};
 ghost use Rattle.layout.specs.Words.{dataFilesIn};
 ghost use Rattle.ducklake.specs.Liveness.{dataFileOfId};
 ghost use Rattle.lookup.specs.Order.{DataFilesById};
-use file_records::data_file::data_file_at;
 use layout::number::CatalogId;
 use layout::number::FileId;
 use layout::number::RowId;
@@ -12,6 +11,7 @@ use layout::record::DataFileRecord;
 use layout::record::Uuid;
 use lists::Found;
 use lookup::find::find_data_file;
+use records::data_file::data_file_at;
 
 // What stands for a data file that isn't there.
 const NO_DATA_FILE: DataFileRecord = DataFileRecord {

@@ -1,146 +1,101 @@
 ghost use mathlib.Core.Path.{_≡_};
-ghost use mathlib.Core.Bool.{true};
 ghost use Prim.Native.Nat.{ℕ};
-ghost use Rattle.layout.specs.declared.record.Uuid.{Uuid};
-ghost use Rattle.layout.specs.Lent.{lentNow, atEntry};
-ghost use Rattle.layout.specs.Words.{load};
-ghost use Rattle.ducklake.specs.Soundness.{sound};
 ghost use Rattle.ducklake.specs.Commits.{delete};
-ghost use Rattle.ducklake.specs.Calls.{commitAt, effect, hasRoom, refusal};
-use crate::added::counts_after_delete;
-use crate::judge::judge_delete;
+ghost use Rattle.ducklake.specs.Calls.{commitAt, refusal};
+ghost use Rattle.row_deletion.specs.Lent.{DeleteLent, deleteAdds};
+use crate::deleted::positions_deleted;
+use crate::file::data_file_of_id;
+use crate::positions::none_deleted;
+use crate::positions::positions_fit;
+use commits::number::next_snapshot;
+use commits::number::snapshot_fits;
+use commits::time::is_in_time;
+use commits::uuid::uuid_is_free;
 use layout::number::FileId;
-use layout::number::POSITION_LIMIT;
-use layout::outcome::ACCEPTED;
+use layout::outcome::ALREADY_DELETED;
+use layout::outcome::BAD_POSITIONS;
 use layout::outcome::Counts;
 use layout::outcome::NO_ROOM;
+use layout::outcome::NOT_LIVE;
 use layout::outcome::NOT_SOUND;
+use layout::outcome::NUMBER_TOO_LARGE;
+use layout::outcome::TIME_FALLS;
+use layout::outcome::Terms;
+use layout::outcome::UUID_TAKEN;
+use layout::record::DELETED_FROM_TABLE;
 use layout::record::Uuid;
-use soundness::check::is_sound;
-use table_room::room::capacity;
-use table_room::room::is_within;
+use lookup::find::latest_snapshot;
+use lookup::live::data_file_is_live;
+use refusals::checked::Checked;
+use refusals::first::first_refusal;
+use refusals::room::has_room;
 
-// "2 the change needs more records or positions than are lent or allowed": whether the runs have room for what a delete adds.
-fn has_delete_room(
-    snapshots: &[u64],
-    schemas: &[u64],
-    schema_names: &[u8],
-    tables: &[u64],
-    table_names: &[u8],
-    columns: &[u64],
-    column_names: &[u8],
-    data_files: &[u64],
-    delete_files: &[u64],
-    positions: &[u64],
-    statistics: &[u64],
-    scheduled: &[u64],
-    counts: Counts,
-    data_file: FileId,
-    new_positions: &[u64],
-) -> bool
-    requires { ⌜ sound (lentNow snapshots schemas «schema_names» tables «table_names» columns «column_names» «data_files» «delete_files» positions statistics
-        scheduled) counts ≡ true ⌝ }
-    ensures { λ r. ⌜ ((time : ℕ) (uuid : Uuid) → r ≡ hasRoom (atEntry snapshots schemas «schema_names» tables «table_names» columns «column_names»
-        «data_files» «delete_files» positions statistics scheduled)
-        (effect (load (atEntry snapshots schemas «schema_names» tables «table_names» columns «column_names» «data_files» «delete_files» positions statistics
-        scheduled) counts) (commitAt time (delete («data_file» .0) uuid (now («new_positions» .entry)))))) ⌝ }
+// What a delete adds: a snapshot, and a delete file of so many positions.
+pub fn delete_adds(positions: usize) -> Counts
+    ensures { λ r. ⌜ r ≡ deleteAdds positions ⌝ }
 {
-    if POSITION_LIMIT < new_positions.len() {
-        return false;
-    }
-    let after = counts_after_delete(snapshots, delete_files, counts, data_file, new_positions);
-    let room = capacity(
-        snapshots,
-        schemas,
-        schema_names,
-        tables,
-        table_names,
-        columns,
-        column_names,
-        data_files,
-        delete_files,
+    Counts {
+        snapshots: 1,
+        schemas: 0,
+        tables: 0,
+        columns: 0,
+        data_files: 0,
+        delete_files: 1,
         positions,
-        statistics,
-        scheduled,
-    );
-    is_within(after, room)
+        statistics: 0,
+        scheduled: 0,
+    }
 }
 
-// The number of 'delete'.
+// The number of 'delete' on tables that were checked: of its tests, in the definition's order, the first that isn't passed.
 pub fn refuse_delete(
+    checked: Checked,
     snapshots: &[u64],
-    schemas: &[u64],
-    schema_names: &[u8],
-    tables: &[u64],
-    table_names: &[u8],
-    columns: &[u64],
-    column_names: &[u8],
     data_files: &[u64],
     delete_files: &[u64],
     positions: &[u64],
-    statistics: &[u64],
     scheduled: &[u64],
     counts: Counts,
-    time: u64,
+    terms: Terms,
     data_file: FileId,
     uuid: Uuid,
     new_positions: &[u64],
 ) -> u64
-    ensures { λ r. ⌜ ((m : ℕ) → r ≡ refusal (atEntry snapshots schemas «schema_names» tables «table_names» columns «column_names»
-        «data_files» «delete_files» positions statistics scheduled) counts m (commitAt time (delete («data_file» .0) uuid (now («new_positions» .entry))))) ⌝ }
+    requires { ⌜ DeleteLent checked (now snapshots) (now «data_files») (now «delete_files») (now positions) (now scheduled) counts ⌝ }
+    ensures { λ r. ⌜ ((l : DeleteLent checked (now (snapshots .entry)) (now («data_files» .entry)) (now («delete_files» .entry)) (now (positions .entry))
+        (now (scheduled .entry)) counts) (m : ℕ)
+        → r ≡ refusal (l .words) counts m (commitAt terms (delete («data_file» .0) uuid (now («new_positions» .entry))))) ⌝ }
 {
-    let sound = is_sound(
-        snapshots,
-        schemas,
-        schema_names,
-        tables,
-        table_names,
-        columns,
-        column_names,
-        data_files,
-        delete_files,
-        positions,
-        statistics,
-        scheduled,
-        counts,
-    );
-    if !sound {
+    if !checked.sound {
         return NOT_SOUND;
     }
-    let number = judge_delete(
-        snapshots,
-        data_files,
+    let latest = latest_snapshot(snapshots, counts.snapshots);
+    let live = data_file_is_live(data_files, counts.data_files, data_file, latest.id);
+    let in_time = is_in_time(latest, terms.time);
+    let free = uuid_is_free(data_files, delete_files, scheduled, counts, uuid);
+    let file = data_file_of_id(data_files, counts.data_files, data_file);
+    let fit = positions_fit(file.record_count, new_positions);
+    let old = positions_deleted(
         delete_files,
+        counts.delete_files,
         positions,
-        scheduled,
-        counts,
-        time,
         data_file,
-        uuid,
-        new_positions,
+        latest.id,
     );
-    if number != ACCEPTED {
-        return number;
-    }
-    let room = has_delete_room(
-        snapshots,
-        schemas,
-        schema_names,
-        tables,
-        table_names,
-        columns,
-        column_names,
-        data_files,
-        delete_files,
-        positions,
-        statistics,
-        scheduled,
-        counts,
-        data_file,
-        new_positions,
-    );
-    if !room {
-        return NO_ROOM;
-    }
-    ACCEPTED
+    let undeleted = none_deleted(old, new_positions);
+    let next = next_snapshot(latest, terms.time, DELETED_FROM_TABLE, file.table, 0, 1);
+    let fits = snapshot_fits(next);
+    let added = delete_adds(old.len() + new_positions.len());
+    let room = has_room(checked.room, counts, added);
+    let numbers = [
+        NOT_LIVE,
+        TIME_FALLS,
+        UUID_TAKEN,
+        BAD_POSITIONS,
+        ALREADY_DELETED,
+        NUMBER_TOO_LARGE,
+        NO_ROOM,
+    ];
+    let passed = [live, in_time, free, fit, undeleted, fits, room];
+    first_refusal(&numbers, &passed)
 }

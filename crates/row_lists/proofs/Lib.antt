@@ -1,3 +1,4 @@
+pub mod Lent
 pub mod Merges
 pub mod RowLists
 pub mod SoundRows

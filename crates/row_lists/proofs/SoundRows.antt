@@ -1,4 +1,4 @@
--- What sound tables give the reading of rows, its refusals, and what its answer comes to.
+-- What sound tables give the reading of rows, and what its answer comes to.
 use Prim.Native.Nat.{ℕ, _<_}
 use mathlib.Core.Path.{_≡_, refl, sym, ap, _∙_}
 use mathlib.Core.Logic.{_⊎_, inl, inr}
@@ -10,16 +10,16 @@ use lib.ListN.{length}
 use borrow.Author.Tests.{eqb-true}
 use Rattle.lists.specs.Lists.{range, all, chained}
 use Rattle.lists.proofs.Tests.{either, both}
-use Rattle.lists.proofs.Members.{in-map-of, in-range}
+use Rattle.lists.proofs.Members.{in-all, in-map-of, in-range}
 use Rattle.layout.specs.declared.outcome.Counts.{Counts}
 use Rattle.layout.specs.Catalog.{Versioned, DeleteFile}
 use Rattle.layout.specs.Words.{Words, load, positionsAt, dataFileAt, dataFilesIn, deleteFileAt, deleteFilesIn}
 use Rattle.ducklake.specs.Liveness.{live, dataFilesAt, deleteFilesAt, deletedAt}
-use Rattle.ducklake.specs.Refusals.{accepted}
-use Rattle.ducklake.specs.Readings.{Query, fileRows, judgeQuery, queryAnswer}
-use Rattle.ducklake.specs.Calls.{queryAt, judgeReading, readingAnswer}
-use Rattle.call_laws.proofs.Ready.{Ready, one-delete-file, positions-ascend, positions-below}
-use Rattle.scans.proofs.SoundTables.{files-readable}
+use Rattle.ducklake.specs.Soundness.{dataFileInRange, sound}
+use Rattle.ducklake.specs.Readings.{Query, fileRows, queryAnswer}
+use Rattle.ducklake.specs.Calls.{queryAt, readingAnswer}
+use Rattle.call_laws.proofs.Ready.{Ready, ready, one-delete-file, positions-ascend, positions-below}
+use Rattle.readings.proofs.Found.{data-files-by-id}
 use Rattle.row_lists.specs.Readable.{DeletesFit, RowsReadable}
 
 module _ {w : Words} {c : Counts} (R : Ready w c) where
@@ -52,23 +52,25 @@ module _ {w : Words} {c : Counts} (R : Ready w c) where
     below = λ k h. either (deleted s (dataFileAt (w .dataFiles) k .id)) (λ e. rw e refl) (λ d. rw (d .3) (positions-below R (d .0) (d .1) k h (sym (d .2))));
   }
 
-  pub rows-readable : (s : ℕ) → RowsReadable (w .dataFiles) (w .deleteFiles) (w .positions) c s
-  rows-readable s = record {
-    byId = files-readable R .byId;
-    few = R .few .dataFiles;
-    fewDeletes = R .few .deleteFiles;
-    ranges = R .dataFileRanges;
-    held = record { lent = R .held .deleteFiles; within = omega (arith, R .added, R .held .positions) };
-    within = record { lent = R .held .deleteFiles; within = omega (arith, R .added, R .few .positions) };
-    deletes = fit s;
-  }
+in-ranges : (w : Words) (c : Counts) → Ready w c → all dataFileInRange (dataFilesIn (w .dataFiles) (c .«data_files»)) ≡ true
+unfolding load
+in-ranges w c R = in-all _ _ (λ f m. R .facts .ranges .dataFiles .at f m)
 
-pub rows-answer : (w : Words) (c : Counts) (s table : ℕ) → readingAnswer (load w c) (queryAt s (Query.rows table))
-    ≡ flatMap (fileRows (deleteFilesIn (w .deleteFiles) (w .positions) (c .«delete_files»)) s) (dataFilesAt (dataFilesIn (w .dataFiles) (c .«data_files»)) s table)
+pub rows-readable : (w : Words) (c : Counts) (s : ℕ) {fs ds ps : List ℕ} → sound w c ≡ true → w .dataFiles ≡ fs → w .deleteFiles ≡ ds → w .positions ≡ ps → RowsReadable fs ds ps c s
+rows-readable w c s h e f g =
+    let R = ready w c h in
+    rw (← e, ← f, ← g)
+    (record {
+      byId = data-files-by-id w c h refl;
+      few = R .few .dataFiles;
+      fewDeletes = R .few .deleteFiles;
+      ranges = in-ranges w c R;
+      held = record { lent = R .held .deleteFiles; within = omega (arith, R .added, R .held .positions) };
+      within = record { lent = R .held .deleteFiles; within = omega (arith, R .added, R .few .positions) };
+      deletes = fit R s;
+    })
+
+pub rows-answer : (w : Words) (c : Counts) (s table : ℕ) {fs ds ps : List ℕ} → w .dataFiles ≡ fs → w .deleteFiles ≡ ds → w .positions ≡ ps
+    → readingAnswer (load w c) (queryAt s (Query.rows table)) ≡ flatMap (fileRows (deleteFilesIn ds ps (c .«delete_files»)) s) (dataFilesAt (dataFilesIn fs (c .«data_files»)) s table)
 unfolding readingAnswer queryAnswer load
-rows-answer w c s table = refl
-
--- rows are refused as files are
-pub rows-judged : (w : Words) (c : Counts) (s table : ℕ) → judgeReading (load w c) (queryAt s (Query.files table)) accepted ≡ judgeReading (load w c) (queryAt s (Query.rows table)) accepted
-unfolding judgeReading judgeQuery
-rows-judged w c s table = refl
+rows-answer w c s table e f g = rw (← e, ← f, ← g) refl

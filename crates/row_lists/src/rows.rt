@@ -8,22 +8,27 @@ ghost use Rattle.lists.specs.Runs.{overwrite};
 ghost use Rattle.layout.specs.Catalog.{recordCountLimit};
 ghost use Rattle.layout.specs.Words.{dataFileAt, dataFilesIn, deleteFilesIn};
 ghost use Rattle.ducklake.specs.Liveness.{dataFilesAt};
-ghost use Rattle.ducklake.specs.Readings.{fileRows};
-ghost use Rattle.scans.specs.Answers.{Answered};
+ghost use Rattle.ducklake.specs.Readings.{Query, fileRows};
+ghost use Rattle.ducklake.specs.Calls.{queryAt, performReading, Promise};
+ghost use Rattle.readings.specs.Answers.{Answered};
+ghost use Rattle.row_lists.specs.Lent.{RowsLent};
 ghost use Rattle.row_lists.specs.Readable.{RowsLocated, RowsReadable};
 ghost use Rattle.row_lists.specs.Rows.{rowsBut, deletedBy, RowsFit, DeletedLocated, FileRowsLocated};
-use file_records::data_file::data_file_record_count;
-use file_records::data_file::data_file_row_id_start;
 use layout::number::CatalogId;
 use layout::number::RowId;
 use layout::number::SnapshotId;
 use layout::number::TABLE_LIMIT;
 use layout::outcome::ACCEPTED;
 use layout::outcome::Counts;
+use layout::outcome::Outcome;
 use layout::outcome::SHORT_ANSWER_AREA;
 use lookup::positions::position_starts;
 use lookup::positions::positions_of;
-use scans::answer::Answer;
+use readings::answer::Answer;
+use readings::table::refuse_table;
+use records::data_file::data_file_record_count;
+use records::data_file::data_file_row_id_start;
+use refusals::checked::Checked;
 use scans::deletions::find_live_delete_files;
 use scans::files::is_in_table;
 
@@ -200,7 +205,7 @@ fn write_rows(
 }
 
 // The answer of a reading of rows.
-pub fn read_rows(
+fn read_rows(
     data_files: &[u64],
     delete_files: &[u64],
     positions: &[u64],
@@ -256,5 +261,41 @@ pub fn read_rows(
     Answer {
         number: ACCEPTED,
         length,
+    }
+}
+
+// The rows of a table at a retained snapshot, of tables that were checked.
+pub fn list_rows(
+    checked: Checked,
+    snapshots: &[u64],
+    tables: &[u64],
+    data_files: &[u64],
+    delete_files: &[u64],
+    positions: &[u64],
+    counts: Counts,
+    s: SnapshotId,
+    table: CatalogId,
+    area: &mut [u64],
+) -> Outcome
+    requires { ⌜ RowsLent checked (now snapshots) (now tables) (now «data_files») (now «delete_files») (now positions) counts ⌝ }
+    ensures { λ r. ⌜ ((l : RowsLent checked (now (snapshots .entry)) (now (tables .entry)) (now («data_files» .entry)) (now («delete_files» .entry))
+        (now (positions .entry)) counts)
+        → Promise (performReading (queryAt (s .0) (Query.rows (table .0))) (l .words) counts (now (area .entry))) r (l .words) (now (area .exit))) ⌝ }
+{
+    let number = refuse_table(checked, snapshots, tables, counts, table, s);
+    if number != ACCEPTED {
+        return Outcome {
+            number,
+            place: 0,
+            length: 0,
+            counts,
+        };
+    }
+    let answer = read_rows(data_files, delete_files, positions, counts, table, s, area);
+    Outcome {
+        number: answer.number,
+        place: 0,
+        length: answer.length,
+        counts,
     }
 }

@@ -19,7 +19,7 @@ use Rattle.layout.specs.Words.{dataFileAt, dataFilesIn, deleteFileAt, deleteFil
 use Rattle.ducklake.specs.Liveness.{dataFilesAt, deleteFilesAt}
 use Rattle.ducklake.specs.Readings.{orAbsent, listed}
 use Rattle.scans.specs.declared.filter.Filter.{Filter}
-use Rattle.scans.specs.Answers.{listedSize}
+use Rattle.scans.specs.Filters.{listedSize}
 use Rattle.scans.specs.Deletions.{deletesIn, fromOne, deleteIdAt, DeleteFilesFound}
 use Rattle.scans.specs.Filters.{passes, inTable, isRead, filesRead}
 

@@ -1,7 +1,7 @@
-pub mod AnswerAreas
+pub mod Answers
+pub mod Columns
 pub mod FileLists
-pub mod Judges
+pub mod Lent
 pub mod LiveDeletes
-pub mod Readings
 pub mod SoundTables
 pub mod Statistics

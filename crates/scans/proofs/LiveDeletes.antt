@@ -1,25 +1,24 @@
 -- The pass from the last delete file to the first: what it has found is the first from the present one on. And what the place found tells of a
 -- data file's delete files.
-use Prim.Native.Nat.{ℕ, zero, suc, _+_, _*_, _≤_, _<_}
+use Prim.Native.Nat.{ℕ, _+_, _≤_, _<_}
 use mathlib.Core.Path.{_≡_, refl, sym, ap, _∙_}
 use mathlib.Core.Bool.{Bool, true, false, _&&_, and-false}
-use mathlib.Core.List.{List, [], _∷_, map}
+use mathlib.Core.List.{List}
 use native.Mathlib.Omega.{arith}
 use native.Mathlib.Numerals.{add-one}
 use lib.Dec.{eqb}
-use lib.ListN.{length, getD, set}
+use lib.ListN.{length, getD}
 use lib.Seq.{getD-set-same, getD-set-other}
 use borrow.Author.Tests.{eq-eqb, ne-eqb as ne, eqb-true, eqb-false}
 use Rattle.lists.specs.declared.Found.{Found}
 use Rattle.lists.specs.declared.Found.the-variants.{At, Nothing}
-use Rattle.lists.specs.Lists.{range, chained, place, filter}
+use Rattle.lists.specs.Lists.{chained, place}
 use Rattle.lists.specs.Runs.{from, field, fields, at}
 use Rattle.lists.proofs.Tests.{if, clash}
 use Rattle.lists.proofs.Places.{Placed, placed}
 use Rattle.lists.proofs.Search.{ascending-one}
 use Rattle.lists.proofs.Loops.{place-start, place-hit, place-miss, place-end}
 use Rattle.layout.specs.Fields.{dataFileSize, dataFileIdWord, deleteFileSize, deleteFileBeginWord}
-use Rattle.layout.specs.Catalog.{Versioned, DeleteFile}
 use Rattle.layout.specs.Records.{deleteFileLayout}
 use Rattle.layout.specs.Words.{dataFileAt, deleteFileAt, deleteFilesIn}
 use Rattle.ducklake.specs.Liveness.{live}

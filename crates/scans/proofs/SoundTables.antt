@@ -1,22 +1,22 @@
 -- What sound tables give the readings of files.
+use mathlib.Core.Path.{_≡_}
+use mathlib.Core.Bool.{true}
+use mathlib.Core.List.{List}
+use Prim.Native.Nat.{ℕ}
 use native.Mathlib.Omega.{arith}
 use Rattle.layout.specs.declared.outcome.Counts.{Counts}
 use Rattle.layout.specs.Words.{Words}
-use Rattle.call_laws.proofs.Ready.{Ready}
-use Rattle.scans.specs.Judged.{TableJudged}
+use Rattle.ducklake.specs.Soundness.{sound}
+use Rattle.call_laws.proofs.Ready.{ready}
+use Rattle.readings.proofs.Found.{data-files-by-id, delete-files-by-id}
 use Rattle.scans.specs.Readable.{FilesReadable}
 
-module _ {w : Words} {c : Counts} (R : Ready w c) where
-  pub table-lent : TableJudged (w .snapshots) (w .tables) c
-  table-lent = record {
-    snapshots = record { lent = R .held .snapshots; inside = omega arith; ascending = R .snapshotIds };
-    tables = record { lent = R .held .tables; inside = omega arith; ascending = R .tableIds };
-  }
-
-  pub files-readable : FilesReadable (w .dataFiles) (w .deleteFiles) (w .statistics) c
-  files-readable = record {
-    byId = record { lent = R .held .dataFiles; inside = omega arith; ascending = R .dataFileIds };
-    few = R .few .dataFiles;
-    lent = R .held .deleteFiles;
-    byFile = record { lent = R .held .statistics; inside = omega arith; neverFalling = R .statisticsFiles };
-  }
+pub files-readable : (w : Words) (c : Counts) {fs ds qs : List ℕ} → sound w c ≡ true → w .dataFiles ≡ fs → w .deleteFiles ≡ ds → w .statistics ≡ qs → FilesReadable fs ds qs c
+files-readable w c h e f g =
+    let R = ready w c h in
+    record {
+      byId = data-files-by-id w c h e;
+      few = R .few .dataFiles;
+      lent = delete-files-by-id w c h f .lent;
+      byFile = rw (← g) (record { lent = R .held .statistics; inside = omega arith; neverFalling = R .statisticsFiles });
+    }

@@ -10,6 +10,10 @@ use Rattle.ducklake.specs.Readings.{kept}
 use Rattle.scans.specs.declared.filter.Filter.{Filter}
 use Rattle.scans.specs.declared.filter.Filter.the-variants.{Every, Equal}
 
+-- "a file list has two words a file"
+abbrev pub listedSize : ℕ
+listedSize = 2
+
 -- a data file of the table, live at s
 abbrev pub inTable : ℕ → ℕ → Versioned DataFile → Bool
 inTable table s f = eqb (f .body .table) table && live s f

@@ -1,5 +1,4 @@
-pub mod Answers
 pub mod Deletions
 pub mod Filters
-pub mod Judged
+pub mod Lent
 pub mod Readable

@@ -4,7 +4,6 @@ ghost use lib.ListN.{length};
 ghost use Rattle.layout.specs.Fields.{dataFileSize, dataFileIdWord};
 ghost use Rattle.lookup.specs.Order.{DataFilesById, placeOf};
 ghost use Rattle.scans.specs.Deletions.{setAt, DeleteFilesSought, DeleteFilesFound};
-use file_records::delete_file::delete_file_data_file;
 use layout::number::FileId;
 use layout::number::SnapshotId;
 use layout::record::DeleteFileRecord;
@@ -12,6 +11,7 @@ use lists::Found;
 use lookup::find::find_data_file;
 use lookup::life::is_live;
 use lookup::life::life_at;
+use records::delete_file::delete_file_data_file;
 
 // The number x at the place of the data file of that id.
 fn set_at_data_file(data_files: &[u64], n: usize, id: FileId, numbers: &mut [usize], x: usize)

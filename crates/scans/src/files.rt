@@ -1,32 +1,37 @@
 ghost use mathlib.Core.Path.{_≡_};
 ghost use mathlib.Core.List.{List, flatMap, _∷_, []};
 ghost use Prim.Native.Nat.{ℕ, _+_, _*_, _≤_, _<_};
-ghost use lib.ListN.{length, getD};
+ghost use lib.ListN.{length};
 ghost use Rattle.lists.specs.Runs.{overwrite};
 ghost use Rattle.layout.specs.Fields.{dataFileSize, deleteFileSize};
 ghost use Rattle.layout.specs.Words.{dataFileAt, dataFilesIn, deleteFilesIn, statisticsIn};
-ghost use Rattle.ducklake.specs.Readings.{listed};
-ghost use Rattle.scans.specs.Answers.{listedSize, Answered};
+ghost use Rattle.ducklake.specs.Readings.{Query, listed};
+ghost use Rattle.ducklake.specs.Calls.{queryAt, performReading, Promise};
+ghost use Rattle.readings.specs.Answers.{Answered};
 ghost use Rattle.scans.specs.Deletions.{deleteIdAt, DeleteFilesFound};
-ghost use Rattle.scans.specs.Filters.{inTable, isRead, filesRead};
+ghost use Rattle.scans.specs.Filters.{listedSize, inTable, isRead, filesRead};
+ghost use Rattle.scans.specs.Lent.{FilesLent};
 ghost use Rattle.scans.specs.Readable.{FilesSelectable, FilesReadable};
-use crate::answer::Answer;
 use crate::deletions::find_live_delete_files;
 use crate::filter::Filter;
 use crate::filter::file_passes;
-use file_records::data_file::data_file_id;
-use file_records::data_file::data_file_table;
-use file_records::delete_file::delete_file_id;
 use layout::number::ABSENT;
 use layout::number::CatalogId;
 use layout::number::SnapshotId;
 use layout::number::TABLE_LIMIT;
 use layout::outcome::ACCEPTED;
 use layout::outcome::Counts;
+use layout::outcome::Outcome;
 use layout::outcome::SHORT_ANSWER_AREA;
 use layout::record::DataFileRecord;
 use lookup::life::is_live;
 use lookup::life::life_at;
+use readings::answer::Answer;
+use readings::table::refuse_table;
+use records::data_file::data_file_id;
+use records::data_file::data_file_table;
+use records::delete_file::delete_file_id;
+use refusals::checked::Checked;
 
 // A file list has so many words a file: the file's id, and the delete file's or ABSENT.
 const LISTED_SIZE: usize = 2;
@@ -201,5 +206,50 @@ pub fn read_files(
     Answer {
         number: ACCEPTED,
         length,
+    }
+}
+
+// The files of a table at a retained snapshot, of tables that were checked.
+pub fn list_table_files(
+    checked: Checked,
+    snapshots: &[u64],
+    tables: &[u64],
+    data_files: &[u64],
+    delete_files: &[u64],
+    statistics: &[u64],
+    counts: Counts,
+    s: SnapshotId,
+    table: CatalogId,
+    area: &mut [u64],
+) -> Outcome
+    requires { ⌜ FilesLent checked (now snapshots) (now tables) (now «data_files») (now «delete_files») (now statistics) counts ⌝ }
+    ensures { λ r. ⌜ ((l : FilesLent checked (now (snapshots .entry)) (now (tables .entry)) (now («data_files» .entry)) (now («delete_files» .entry))
+        (now (statistics .entry)) counts)
+        → Promise (performReading (queryAt (s .0) (Query.files (table .0))) (l .words) counts (now (area .entry))) r (l .words) (now (area .exit))) ⌝ }
+{
+    let number = refuse_table(checked, snapshots, tables, counts, table, s);
+    if number != ACCEPTED {
+        return Outcome {
+            number,
+            place: 0,
+            length: 0,
+            counts,
+        };
+    }
+    let answer = read_files(
+        data_files,
+        delete_files,
+        statistics,
+        counts,
+        table,
+        s,
+        Filter::Every,
+        area,
+    );
+    Outcome {
+        number: answer.number,
+        place: 0,
+        length: answer.length,
+        counts,
     }
 }

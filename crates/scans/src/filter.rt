@@ -1,15 +1,14 @@
 ghost use mathlib.Core.Path.{_≡_};
-ghost use Prim.Native.Nat.{ℕ};
 ghost use Rattle.layout.specs.Catalog.{Versioned, DataFile, statisticsOf};
 ghost use Rattle.layout.specs.Words.{statisticsIn};
 ghost use Rattle.ducklake.specs.Readings.{admits, kept};
 ghost use Rattle.lookup.specs.Order.{StatisticsByFile};
 ghost use Rattle.scans.specs.Filters.{passes};
-use file_records::statistics::statistics_at;
+use column_types::to_signed;
 use layout::number::FileId;
 use layout::record::StatisticsRecord;
 use lookup::block::statistics_of;
-use values::to_signed;
+use records::statistics::statistics_at;
 
 // Which files a list keeps: every one, or those that may hold a row with `column = scalar`.
 pub enum Filter {

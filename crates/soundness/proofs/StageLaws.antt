@@ -14,12 +14,11 @@ use Rattle.layout.specs.declared.outcome.Counts.{Counts}
 use Rattle.layout.specs.Catalog.{absent, Versioned, Snapshot, Catalog}
 use Rattle.layout.specs.Fields.{snapshotSize, deleteFileSize}
 use Rattle.layout.specs.Words.{Words, load, snapshotsIn, tableLimit, positionsBefore, capacity, within, dataFilesIn, deleteFilesIn}
-use Rattle.layout.proofs.Room.{Held, held, reflects-within}
+use Rattle.layout.proofs.Room.{held, reflects-within}
 use Rattle.ducklake.specs.Liveness.{latestOf}
 use Rattle.ducklake.specs.Refusals.{need}
 use Rattle.ducklake.specs.Soundness.{snapshotInRange, schemaInRange, tableInRange, columnInRange, dataFileInRange, deleteFileInRange, statisticsInRange, scheduledInRange, fieldsInRange, snapshotsRise, idsAscend, lifeSound, livesSound, idsBelowNext, livesNest, filesDistinct, namesApart, deletesSound, rowRangesSound, statisticsSound, columnCountsSound, sound, positionsAddUp, firstUnsound}
 use Rattle.ducklake.proofs.facts.Needs.{need-passed}
-use Rattle.ducklake.proofs.facts.FirstUnsound.{sound-line}
 use Rattle.lookup.specs.Order.{SnapshotsById, TablesById, ColumnsByTable}
 use Rattle.soundness_deletes.specs.Deletes.{beginsBeforeEnd, DeletesCheckable}
 use Rattle.soundness_deletes.specs.Rows.{RowRangesCheckable}
@@ -307,4 +306,5 @@ module _ (w : Words) (c : Counts) where
   last-stage p e = e ∙ sym (after-records (p .before) ∙ ap (λ (x : ℕ). first x (contentsLine w c)) (p .relations) ∙ goes-on _)
 
   pub sound-is : {r : ℕ} → r ≡ firstUnsound w c → eqb r 0 ≡ sound w c
-  sound-is e = ap (λ (x : ℕ). eqb x 0) e ∙ sym (sound-line w c)
+  unfolding sound
+  sound-is e = ap (λ (x : ℕ). eqb x 0) e

@@ -1,14 +1,14 @@
 ghost use mathlib.Core.Path.{_≡_};
 ghost use Rattle.layout.specs.Lent.{atEntry};
-ghost use Rattle.ducklake.specs.Soundness.{sound, firstUnsound};
+ghost use Rattle.ducklake.specs.Soundness.{firstUnsound};
 use crate::line::FIELDS_LINE;
 use crate::line::SOUND;
 use crate::stages::contents_line;
 use crate::stages::records_line;
 use crate::stages::relations_line;
 use layout::outcome::Counts;
-use table_room::room::capacity;
-use table_room::room::is_within;
+use refusals::room::capacity;
+use refusals::room::is_within;
 
 // The first line of 'Sound tables' that doesn't hold, or 0: any content of the runs, any counts. A stage relies on those before it.
 pub fn first_unsound(
@@ -98,41 +98,4 @@ pub fn first_unsound(
         scheduled,
         counts,
     )
-}
-
-// Whether the lent tables are sound.
-pub fn is_sound(
-    snapshots: &[u64],
-    schemas: &[u64],
-    schema_names: &[u8],
-    tables: &[u64],
-    table_names: &[u8],
-    columns: &[u64],
-    column_names: &[u8],
-    data_files: &[u64],
-    delete_files: &[u64],
-    positions: &[u64],
-    statistics: &[u64],
-    scheduled: &[u64],
-    counts: Counts,
-) -> bool
-    ensures { λ r. ⌜ r ≡ sound (atEntry snapshots schemas «schema_names» tables «table_names» columns «column_names»
-        «data_files» «delete_files» positions statistics scheduled) counts ⌝ }
-{
-    let line = first_unsound(
-        snapshots,
-        schemas,
-        schema_names,
-        tables,
-        table_names,
-        columns,
-        column_names,
-        data_files,
-        delete_files,
-        positions,
-        statistics,
-        scheduled,
-        counts,
-    );
-    line == SOUND
 }

@@ -1,5 +1,6 @@
 // Which line of 'Sound tables' the lent tables break.
 pub mod check;
+pub mod checked;
 pub mod line;
 pub mod positions;
 pub mod stages;

@@ -4,7 +4,7 @@ ghost use lib.Dec.{eqb};
 ghost use lib.ListN.{length};
 ghost use Rattle.layout.specs.Fields.{deleteFileSize};
 ghost use Rattle.layout.specs.Words.{positionsBefore};
-use file_records::delete_file::delete_file_delete_count;
+use records::delete_file::delete_file_delete_count;
 
 // Whether the delete counts "add up to the used positions". A sum that grows past them is not taken further.
 pub fn positions_add_up(delete_files: &[u64], n: usize, total: usize) -> bool

@@ -8,13 +8,13 @@ ghost use Rattle.layout.specs.Words.{Words, load, tablesIn, dataFilesIn};
 ghost use Rattle.ducklake.specs.Soundness.{dataFileInRange, rowIdEnd, rowsBefore, rowsInTable, rowRangesSound};
 ghost use Rattle.lookup.specs.Order.{TablesById};
 ghost use Rattle.soundness_deletes.specs.Rows.{RowRangesCheckable};
-use file_records::data_file::data_file_at;
 use layout::number::RowId;
 use layout::number::TABLE_LIMIT;
 use layout::outcome::Counts;
 use layout::record::DataFileRecord;
 use lists::Found;
 use lookup::find::find_table;
+use records::data_file::data_file_at;
 use records::table::table_next_row_id;
 
 // The row number after the last of a file.

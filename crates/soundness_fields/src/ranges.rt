@@ -10,6 +10,7 @@ ghost use Rattle.layout.specs.Types.{isType};
 ghost use Rattle.layout.specs.Words.{Words, load, snapshotsIn, schemasIn, tablesIn, columnsIn, dataFilesIn, deleteFilesIn, statisticsIn, scheduledIn};
 ghost use Rattle.ducklake.specs.Soundness.{inLimit, snapshotInRange, schemaInRange, tableInRange, columnInRange, dataFileInRange, deleteFileInRange, statisticsInRange, scheduledInRange, fieldsInRange};
 ghost use Rattle.soundness_fields.specs.Lent.{FieldsLent};
+use column_types::is_type;
 use layout::number::NUMBER_LIMIT;
 use layout::number::RECORD_COUNT_LIMIT;
 use layout::outcome::Counts;
@@ -24,7 +25,6 @@ use layout::record::TableRecord;
 use names::is_name;
 use runs::fields::field_at;
 use runs::fields::fields_between;
-use values::is_type;
 
 // "every field is in its range; padding is zero": a pass over the table for each of its fields.
 

@@ -11,9 +11,6 @@ ghost use Rattle.ducklake.specs.Soundness.{holds, tableNests, columnNests, data
 ghost use Rattle.lookup.specs.Order.{ById, SchemasById, TablesById, DataFilesById};
 ghost use Rattle.lookup.specs.Versions.{withLife, versionsIn};
 ghost use Rattle.soundness_lives.specs.Lent.{Nestable};
-use file_records::data_file::data_file_table;
-use file_records::delete_file::delete_file_data_file;
-use file_records::delete_file::delete_file_table;
 use layout::outcome::Counts;
 use layout::record::ColumnRecord;
 use layout::record::DataFileRecord;
@@ -28,6 +25,9 @@ use lookup::life::life_at;
 use lookup::life::life_holds;
 use lookup::life::same_life;
 use records::column::column_table;
+use records::data_file::data_file_table;
+use records::delete_file::delete_file_data_file;
+use records::delete_file::delete_file_table;
 use records::table::table_schema;
 use runs::fields::find_field;
 

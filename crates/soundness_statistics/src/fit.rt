@@ -5,14 +5,14 @@ ghost use Prim.Native.Nat.{ℕ};
 ghost use Rattle.layout.specs.Catalog.{columnOf, statisticsOf};
 ghost use Rattle.ducklake.specs.Liveness.{live};
 ghost use Rattle.ducklake.specs.Soundness.{boundFits, statisticsFit};
+use column_types::bound_at_most;
+use column_types::in_type;
+use column_types::to_signed;
 use layout::number::SnapshotId;
 use layout::record::ColumnRecord;
 use layout::record::StatisticsRecord;
 use lookup::life::Life;
 use lookup::life::is_live;
-use values::bound_at_most;
-use values::in_type;
-use values::to_signed;
 
 // Whether a file that begins at s has statistics of the column: "each column live at its begin".
 pub fn statistics_wanted(column: ColumnRecord, s: SnapshotId) -> bool

@@ -12,9 +12,6 @@ ghost use Rattle.lookup.specs.Order.{ColumnsByTable, DataFilesById, StatisticsB
 ghost use Rattle.soundness_statistics.specs.Relied.{StatisticsCheckable};
 use crate::fit::statistics_fit;
 use crate::fit::statistics_wanted;
-use file_records::data_file::data_file_at;
-use file_records::statistics::statistics_at;
-use file_records::statistics::statistics_data_file;
 use layout::outcome::Counts;
 use layout::record::DataFileRecord;
 use lists::Found;
@@ -23,6 +20,9 @@ use lookup::block::columns_of;
 use lookup::block::statistics_near;
 use lookup::find::find_data_file;
 use records::column::column_at;
+use records::data_file::data_file_at;
+use records::statistics::statistics_at;
+use records::statistics::statistics_data_file;
 
 // "each data file has one statistics record for each column live at its begin", in the order of columns; the records `given`
 fn file_statistics_sound(

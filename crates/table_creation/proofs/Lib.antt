@@ -1,3 +1,6 @@
+pub mod Appends
 pub mod Effects
+pub mod Fits
 pub mod Judged
+pub mod Lent
 pub mod Relied

@@ -1,48 +1,46 @@
--- What an accepted 'create table' gives its writes: room behind the records in use, by the counts after it, a name and columns that are well formed.
+-- What sound tables give the tests of 'create table', and an accepted one its writes: room behind the records in use, a name and columns that are well formed.
 use Prim.Native.Nat.{ℕ}
-use mathlib.Core.Path.{_≡_, refl, sym, _∙_}
-use mathlib.Core.Bool.{true}
+use mathlib.Core.Path.{_≡_, refl}
 use mathlib.Core.List.{List}
 use native.Mathlib.Omega.{arith}
 use Rattle.layout.specs.declared.outcome.Counts.{Counts}
+use Rattle.layout.specs.declared.outcome.Terms.{Terms}
+use Rattle.layout.specs.Catalog.{Snapshot}
 use Rattle.layout.specs.Words.{Words, load}
-use Rattle.ducklake.specs.Arguments.{columnsFit, columnArguments}
+use Rattle.ducklake.specs.Refusals.{badName, badColumns}
 use Rattle.ducklake.specs.Commits.{createTable}
-use Rattle.ducklake.specs.Calls.{commitAt}
+use Rattle.ducklake.specs.Calls.{Call, commitAt, callRefusals}
+use Rattle.ducklake.proofs.claim.Accepted.{numbered-call}
+use Rattle.ducklake.proofs.facts.Needs.{AllPassed, first-passed}
 use Rattle.call_laws.specs.Writes.{addCounts}
 use Rattle.call_laws.proofs.Commits.{held-after}
 use Rattle.call_laws.proofs.CommitCounts.{create-table-adds}
-use Rattle.call_laws.proofs.Ready.{ready}
+use Rattle.call_laws.proofs.Ready.{Ready, ready}
 use Rattle.call_laws.proofs.Refusals.{AcceptedCall}
-use Rattle.table_room.specs.Relied.{Few}
-use Rattle.commit_checks.proofs.Judges.{name-short}
-use Rattle.commit_writes.proofs.Relied.{snapshot-room}
-use Rattle.column_arguments.proofs.Fits.{fit-whole, whole-few, columns-fit-any}
-use Rattle.table_creation.specs.Relied.{TableRoom, tableAdded}
-use Rattle.table_creation.proofs.Judged.{create-table-passed}
+use Rattle.commits.proofs.Judged.{name-short}
+use Rattle.commits.proofs.Relied.{tables-named}
+use Rattle.commits.proofs.Room.{snapshot-room}
+use Rattle.table_creation.specs.Appended.{ColumnsRoom}
+use Rattle.table_creation.specs.Relied.{TableChecked, TableRoom}
 
--- columns that fit are few
-pub few-added : (table : ℕ) (words names : List ℕ) {a : Counts} → columnsFit table words names ≡ true → a ≡ tableAdded (columnArguments words) → Few a
-few-added table words names h e = rw e (record {
-  snapshots = omega arith;
-  schemas = omega arith;
-  tables = omega arith;
-  columns = omega (arith, whole-few words names (fit-whole table words names h));
-  dataFiles = omega arith;
-  deleteFiles = omega arith;
-  positions = omega arith;
-  statistics = omega arith;
-  scheduled = omega arith;
-})
+pub table-checked : (w : Words) (c : Counts) → Ready w c → TableChecked (w .snapshots) (w .schemas) (w .tables) (w .tableNames) c
+table-checked w c R =
+    record { latest = R .latest; schemas = record { lent = R .held .schemas; inside = omega arith; ascending = R .schemaIds }; tables = tables-named w c R }
 
-pub create-table-relies : (w : Words) (c : Counts) (m time schema : ℕ) (name words names : List ℕ) → AcceptedCall w c m (commitAt time (createTable schema name words names))
+pub create-table-relies : (w : Words) (c : Counts) (m : ℕ) (terms : Terms) (schema : ℕ) (name words names : List ℕ) → AcceptedCall w c m (commitAt terms (createTable schema name words names))
     → TableRoom (w .snapshots) (w .tables) (w .tableNames) (w .columns) (w .columnNames) c name words names
-unfolding addCounts
-create-table-relies w c m time schema name words names A =
-    let h = held-after w c (A .fits) time (createTable schema name words names) (create-table-adds (load w c) time schema name words names) (A .room) in
-    let P = create-table-passed (load w c) time schema name words names (sym (A .judged)) refl in
+unfolding addCounts load
+create-table-relies w c m terms schema name words names A =
+    let k : Call = commitAt terms (createTable schema name words names) in
+    let h = held-after w c (A .fits) terms (createTable schema name words names) (create-table-adds (load w c) (terms .time) schema name words names) (A .room) in
+    let p : AllPassed (callRefusals (load w c) k) = first-passed (callRefusals (load w c) k) (numbered-call (load w c) k) (A .judged) in
     record {
       snapshots = snapshot-room w c _ 1 0 (ready w c (A .sound)) refl h (omega arith) (omega arith);
-      tables = record { room = omega (arith, h .tables); place = omega (arith, h .tableNames); short = name-short name (P .named) };
-      columns = record { fit = λ table. columns-fit-any table _ words names ∙ P .fit; room = h .columns; named = h .columnNames };
+      tables = record { room = omega (arith, h .tables); place = omega (arith, h .tableNames); short = name-short name (p badName) };
+      columns = record { fit = p badColumns; room = h .columns; named = h .columnNames };
     }
+
+-- room for the columns of the new table, by the snapshot that gives its id
+pub columns-room-as : {run places words names : List ℕ} {n : ℕ} {l l′ : Snapshot} → l ≡ l′ → ColumnsRoom run places n (l′ .nextCatalogId) words names
+    → ColumnsRoom run places n (l .nextCatalogId) words names
+columns-room-as e R = rw e R

@@ -3,14 +3,16 @@ use Prim.Native.Nat.{ℕ}
 use mathlib.Core.List.{List}
 use Rattle.layout.specs.declared.outcome.Counts.{Counts}
 use Rattle.layout.specs.Fields.{tableSize}
+use Rattle.layout.specs.Words.{snapshotsIn}
+use Rattle.ducklake.specs.Liveness.{latestOf}
 use Rattle.call_laws.specs.Latest.{HasLatest}
 use Rattle.lookup.specs.Order.{SchemasById}
-use Rattle.commit_checks.specs.Relied.{WithNames}
-use Rattle.commit_writes.specs.Written.{SnapshotRoom, NamedRoom}
-use Rattle.column_arguments.specs.Appended.{ColumnsRoom}
+use Rattle.commits.specs.Relied.{WithNames}
+use Rattle.commits.specs.Written.{SnapshotRoom, NamedRoom}
+use Rattle.table_creation.specs.Appended.{ColumnsRoom}
 
--- what its own refusals look at
-pub record CreatesTable (ns ss ts tn : List ℕ) (c : Counts) : Type 0 where
+-- what it looks at
+pub record TableChecked (ns ss ts tn : List ℕ) (c : Counts) : Type 0 where
   pub latest : HasLatest ns (c .snapshots)
   pub schemas : SchemasById ss (c .schemas)
   pub tables : WithNames tableSize ts tn (c .tables)
@@ -19,7 +21,7 @@ pub record CreatesTable (ns ss ts tn : List ℕ) (c : Counts) : Type 0 where
 pub record TableRoom (ns ts tn cs cn : List ℕ) (c : Counts) (name words names : List ℕ) : Type 0 where
   pub snapshots : SnapshotRoom ns (c .snapshots) 1 0
   pub tables : NamedRoom tableSize ts tn (c .tables) name
-  pub columns : ColumnsRoom cs cn (c .columns) words names
+  pub columns : ColumnsRoom cs cn (c .columns) (latestOf (snapshotsIn ns (c .snapshots)) .nextCatalogId) words names
 
 -- the records that it adds, with so many columns
 abbrev pub tableAdded : ℕ → Counts

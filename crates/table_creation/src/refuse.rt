@@ -1,95 +1,84 @@
 ghost use mathlib.Core.Path.{_≡_};
+ghost use mathlib.Core.Bool.{true};
 ghost use Prim.Native.Nat.{ℕ};
-ghost use Rattle.layout.specs.Lent.{atEntry};
+ghost use Rattle.layout.specs.Words.{Words};
 ghost use Rattle.ducklake.specs.Commits.{createTable};
 ghost use Rattle.ducklake.specs.Calls.{commitAt, refusal};
-use crate::judge::judge_create_table;
+ghost use Rattle.refusals.specs.Checked.{checkedOf};
+ghost use Rattle.table_creation.specs.Relied.{TableChecked};
+use crate::columns::columns_fit;
 use crate::room::table_added;
+use commits::name::table_name_is_free;
+use commits::number::next_snapshot;
+use commits::number::snapshot_fits;
+use commits::time::is_in_time;
 use layout::number::CatalogId;
-use layout::outcome::ACCEPTED;
+use layout::outcome::BAD_COLUMNS;
+use layout::outcome::BAD_NAME;
 use layout::outcome::Counts;
+use layout::outcome::NAME_TAKEN;
 use layout::outcome::NO_ROOM;
+use layout::outcome::NOT_LIVE;
 use layout::outcome::NOT_SOUND;
-use soundness::check::is_sound;
-use table_room::room::has_room;
+use layout::outcome::NUMBER_TOO_LARGE;
+use layout::outcome::TIME_FALLS;
+use layout::outcome::Terms;
+use layout::record::CREATED_TABLE;
+use lookup::find::latest_snapshot;
+use lookup::live::schema_is_live;
+use names::is_name_argument;
+use refusals::checked::Checked;
+use refusals::first::first_refusal;
+use refusals::room::has_room;
 
-// The number of 'create table'.
+// The number of 'create table' on tables that were checked: of its tests, in the definition's order, the first that isn't passed.
 pub fn refuse_create_table(
+    checked: Checked,
     snapshots: &[u64],
     schemas: &[u64],
-    schema_names: &[u8],
     tables: &[u64],
     table_names: &[u8],
-    columns: &[u64],
-    column_names: &[u8],
-    data_files: &[u64],
-    delete_files: &[u64],
-    positions: &[u64],
-    statistics: &[u64],
-    scheduled: &[u64],
     counts: Counts,
-    time: u64,
+    terms: Terms,
     schema: CatalogId,
     name: &[u8],
     new_columns: &[u64],
-    new_names: &[u8],
+    new_column_names: &[u8],
 ) -> u64
-    ensures { λ r. ⌜ ((m : ℕ) → r ≡ refusal (atEntry snapshots schemas «schema_names» tables «table_names» columns «column_names»
-        «data_files» «delete_files» positions statistics scheduled) counts m
-        (commitAt time (createTable (schema .0) (now (name .entry)) (now («new_columns» .entry)) (now («new_names» .entry))))) ⌝ }
+    requires { ⌜ (checked .sound ≡ true → TableChecked (now snapshots) (now schemas) (now tables) (now «table_names») counts) ⌝ }
+    ensures { λ r. ⌜ ((w : Words) → w .snapshots ≡ now (snapshots .entry) → w .schemas ≡ now (schemas .entry) → w .tables ≡ now (tables .entry)
+        → w .tableNames ≡ now («table_names» .entry) → checked ≡ checkedOf w counts → (m : ℕ) → r ≡ refusal w counts m
+        (commitAt terms (createTable (schema .0) (now (name .entry)) (now («new_columns» .entry)) (now («new_column_names» .entry))))) ⌝ }
 {
-    let sound = is_sound(
-        snapshots,
-        schemas,
-        schema_names,
-        tables,
-        table_names,
-        columns,
-        column_names,
-        data_files,
-        delete_files,
-        positions,
-        statistics,
-        scheduled,
-        counts,
-    );
-    if !sound {
+    if !checked.sound {
         return NOT_SOUND;
     }
-    let number = judge_create_table(
-        snapshots,
-        schemas,
-        tables,
-        table_names,
-        counts,
-        time,
-        schema,
-        name,
-        new_columns,
-        new_names,
+    let latest = latest_snapshot(snapshots, counts.snapshots);
+    let live = schema_is_live(schemas, counts.schemas, schema, latest.id);
+    let in_time = is_in_time(latest, terms.time);
+    let named = is_name_argument(name);
+    let free = table_name_is_free(tables, table_names, counts.tables, schema, latest.id, name);
+    let formed = columns_fit(new_columns, new_column_names);
+    let next = next_snapshot(
+        latest,
+        terms.time,
+        CREATED_TABLE,
+        latest.next_catalog_id,
+        1,
+        0,
     );
-    if number != ACCEPTED {
-        return number;
-    }
+    let fits = snapshot_fits(next);
     let added = table_added(new_columns);
-    let room = has_room(
-        snapshots,
-        schemas,
-        schema_names,
-        tables,
-        table_names,
-        columns,
-        column_names,
-        data_files,
-        delete_files,
-        positions,
-        statistics,
-        scheduled,
-        counts,
-        added,
-    );
-    if !room {
-        return NO_ROOM;
-    }
-    ACCEPTED
+    let room = has_room(checked.room, counts, added);
+    let numbers = [
+        NOT_LIVE,
+        TIME_FALLS,
+        BAD_NAME,
+        NAME_TAKEN,
+        BAD_COLUMNS,
+        NUMBER_TOO_LARGE,
+        NO_ROOM,
+    ];
+    let passed = [live, in_time, named, free, formed, fits, room];
+    first_refusal(&numbers, &passed)
 }

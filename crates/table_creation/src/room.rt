@@ -1,7 +1,7 @@
 ghost use mathlib.Core.Path.{_≡_};
 ghost use Rattle.ducklake.specs.Arguments.{columnArguments};
 ghost use Rattle.table_creation.specs.Relied.{tableAdded};
-use column_arguments::argument::column_count;
+use crate::argument::column_count;
 use layout::outcome::Counts;
 
 // What 'create table' adds: a snapshot, a table and the columns of its argument.

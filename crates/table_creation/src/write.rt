@@ -1,14 +1,16 @@
 ghost use mathlib.Core.Path.{_≡_};
 ghost use mathlib.Core.Bool.{true};
-ghost use Rattle.layout.specs.Words.{Words, lent, load, store, fits};
+ghost use Rattle.layout.specs.Words.{Words, load, store, fits};
 ghost use Rattle.ducklake.specs.Commits.{createTable};
 ghost use Rattle.ducklake.specs.Calls.{commitAt, effect};
+ghost use Rattle.table_creation.specs.Lent.{createTableLeaves};
 ghost use Rattle.table_creation.specs.Relied.{TableRoom};
-use column_arguments::append::append_columns;
-use commit_writes::append::append_snapshot;
-use commit_writes::append::append_table;
+use crate::append::append_columns;
+use commits::append::append_snapshot;
+use commits::append::append_table;
 use layout::number::CatalogId;
 use layout::outcome::Counts;
+use layout::outcome::Terms;
 use layout::record::CREATED_TABLE;
 use lookup::find::latest_snapshot;
 
@@ -20,24 +22,31 @@ pub fn write_create_table(
     columns: &mut [u64],
     column_names: &mut [u8],
     counts: Counts,
-    time: u64,
+    terms: Terms,
     schema: CatalogId,
     name: &[u8],
     new_columns: &[u64],
-    new_names: &[u8],
+    new_column_names: &[u8],
 )
     requires { ⌜ TableRoom (now snapshots) (now tables) (now «table_names») (now columns) (now «column_names») counts
-        (now name) (now «new_columns») (now «new_names») ⌝ }
+        (now name) (now «new_columns») (now «new_column_names») ⌝ }
     ensures { λ _. ⌜ ((w : Words) → fits w counts ≡ true → w .snapshots ≡ now (snapshots .entry) → w .tables ≡ now (tables .entry)
         → w .tableNames ≡ now («table_names» .entry) → w .columns ≡ now (columns .entry) → w .columnNames ≡ now («column_names» .entry)
-        → lent (now (snapshots .exit)) (w .schemas) (w .schemaNames) (now (tables .exit)) (now («table_names» .exit)) (now (columns .exit))
-        (now («column_names» .exit)) (w .dataFiles) (w .deleteFiles) (w .positions) (w .statistics) (w .scheduled)
-        ≡ store w counts (effect (load w counts) (commitAt time
-        (createTable (schema .0) (now (name .entry)) (now («new_columns» .entry)) (now («new_names» .entry)))))) ⌝ }
+        → createTableLeaves w (now (snapshots .exit)) (now (tables .exit)) (now («table_names» .exit)) (now (columns .exit)) (now («column_names» .exit))
+        ≡ store w counts (effect (load w counts) (commitAt terms
+        (createTable (schema .0) (now (name .entry)) (now («new_columns» .entry)) (now («new_column_names» .entry)))))) ⌝ }
 {
     let latest = latest_snapshot(snapshots, counts.snapshots);
     let id = latest.next_catalog_id;
-    let begin = append_snapshot(snapshots, counts.snapshots, time, CREATED_TABLE, id, 1, 0);
+    let begin = append_snapshot(
+        snapshots,
+        counts.snapshots,
+        terms.time,
+        CREATED_TABLE,
+        id,
+        1,
+        0,
+    );
     append_table(tables, table_names, counts.tables, id, begin, schema, name);
     append_columns(
         columns,
@@ -46,6 +55,6 @@ pub fn write_create_table(
         id,
         begin,
         new_columns,
-        new_names,
+        new_column_names,
     );
 }

@@ -4,7 +4,7 @@
 #![allow(unsafe_code, clippy::too_many_arguments)]
 
 use crate::number::{CatalogId, FileId, SnapshotId};
-use crate::outcome::{Counts, Outcome};
+use crate::outcome::{Counts, Outcome, Terms};
 use crate::record::Uuid;
 use crate::session::Session;
 use crate::tables::{Tables, TablesView};
@@ -129,18 +129,18 @@ macro_rules! judges {
 
 changes! {
     fresh(time: u64) = catalog_fresh(time => u64);
-    create_schema(time: u64, name: &[u8]) = catalog_create_schema(time => u64, name.as_ptr() => *const u8, name.len() => usize);
-    drop_schema(time: u64, schema: CatalogId) = catalog_drop_schema(time => u64, schema => CatalogId);
+    create_schema(time: u64, name: &[u8]) = catalog_create_schema(Terms { time } => Terms, name.as_ptr() => *const u8, name.len() => usize);
+    drop_schema(time: u64, schema: CatalogId) = catalog_drop_schema(Terms { time } => Terms, schema => CatalogId);
     /// Two words for each column, type and nulls_allowed, and a place of 32 bytes for its name.
     create_table(time: u64, schema: CatalogId, name: &[u8], new_columns: &[u64], new_names: &[u8]) = catalog_create_table(
-        time => u64, schema => CatalogId, name.as_ptr() => *const u8, name.len() => usize, new_columns.as_ptr() => *const u64, new_columns.len() => usize,
+        Terms { time } => Terms, schema => CatalogId, name.as_ptr() => *const u8, name.len() => usize, new_columns.as_ptr() => *const u64, new_columns.len() => usize,
         new_names.as_ptr() => *const u8, new_names.len() => usize);
-    drop_table(time: u64, table: CatalogId) = catalog_drop_table(time => u64, table => CatalogId);
+    drop_table(time: u64, table: CatalogId) = catalog_drop_table(Terms { time } => Terms, table => CatalogId);
     /// Six words for each live column: column id, null_count, has_min, has_max, min, max.
     insert(time: u64, table: CatalogId, record_count: u64, uuid: Uuid, new_statistics: &[u64]) = catalog_insert(
-        time => u64, table => CatalogId, record_count => u64, uuid => Uuid, new_statistics.as_ptr() => *const u64, new_statistics.len() => usize);
+        Terms { time } => Terms, table => CatalogId, record_count => u64, uuid => Uuid, new_statistics.as_ptr() => *const u64, new_statistics.len() => usize);
     delete(time: u64, data_file: FileId, uuid: Uuid, new_positions: &[u64]) = catalog_delete(
-        time => u64, data_file => FileId, uuid => Uuid, new_positions.as_ptr() => *const u64, new_positions.len() => usize);
+        Terms { time } => Terms, data_file => FileId, uuid => Uuid, new_positions.as_ptr() => *const u64, new_positions.len() => usize);
     expire(ids: &[u64], time: u64) = catalog_expire(ids.as_ptr() => *const u64, ids.len() => usize, time => u64);
     /// The answer is three words for each file: id, UUID high, UUID low.
     cleanup(t: u64) = catalog_cleanup(t => u64);

@@ -5,13 +5,20 @@ use Rattle.diary_listing.proofs.write_delete_path.Statement.{statement}
 use Rattle.diary_listing.proofs.write_delete_path.Tie as tie
 
 returns : tie.Need-returns
-returns c = nothing-written _ _ _ _ (c .if1 .taken)
+returns c l = nothing-written _ _ _ _ (c .if1 .taken)
 
 write-file-path-requires : tie.Need-write-file-path-requires
-write-file-path-requires c κs = delete-path-room _ _ (c .before .if1 .left) (c .before .before .before .before .before .before .before .before .before .before .before .before .before .before .before .pre)
+write-file-path-requires c κs =
+    let start : tie.Start = search in
+    let given : tie.Else1 = search in
+    let l = start .pre .0 in
+    (l, delete-path-room _ _ (given .if1 .left) (start .pre .1 l))
 
 returns-2 : tie.Need-returns-2
-returns-2 c = delete-path-written _ _ (c .before .before .before .before .if1 .left) (c .before .before .write-file-path .ensures)
+returns-2 c l =
+    let given : tie.Else1 = search in
+    let path : tie.After-write-file-path = search in
+    delete-path-written _ _ (given .if1 .left) (path .write-file-path .ensures l)
 
 pub write-delete-path-spec : {M : Type 1} → statement M
 write-delete-path-spec = tie.close (tie.spec returns write-file-path-requires (λ c. search needs) returns-2)

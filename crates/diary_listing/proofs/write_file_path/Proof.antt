@@ -4,10 +4,19 @@ use Rattle.diary_listing.proofs.Lines.{path-written}
 use Rattle.diary_listing.proofs.write_file_path.Statement.{statement}
 use Rattle.diary_listing.proofs.write_file_path.Tie as tie
 
+copy-file-requires : tie.Need-copy-file-requires
+copy-file-requires c κs = let start : tie.Start = search in start .pre .0
+
+write-path-requires : tie.Need-write-path-requires
+write-path-requires c κs = let start : tie.Start = search in start .pre .1
+
 returns : tie.Need-returns
-returns c = path-written _ _ _ (c .before .before .before .before .before .catalog-copy-file .ensures) (c .before .before .write-path .ensures)
+returns c l =
+    let copied : tie.After-copy-file = search in
+    let written : tie.After-write-path = search in
+    path-written _ _ _ (copied .copy-file .ensures l) (written .write-path .ensures)
 
 pub write-file-path-spec : {M : Type 1} → statement M
 write-file-path-spec =
     tie.close
-    (tie.spec (λ c. search needs) (λ c κs. search needs) (λ c. search needs) (λ c. search needs) (λ c κs. search needs) (λ c. search needs) returns)
+    (tie.spec (λ c. search needs) copy-file-requires (λ c. search needs) (λ c. search needs) write-path-requires (λ c. search needs) returns)

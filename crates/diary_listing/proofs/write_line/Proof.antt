@@ -5,33 +5,48 @@ use Rattle.diary_listing.proofs.Lines.{line-room, comma-room, delete-ro
 use Rattle.diary_listing.proofs.write_line.Statement.{statement}
 use Rattle.diary_listing.proofs.write_line.Tie as tie
 
+-- further back than a search from the end goes
+abbrev path-of : tie.After-write-bytes → tie.After-write-file-path
+path-of c = search
+
 write-file-path-requires : tie.Need-write-file-path-requires
-write-file-path-requires c κs = omega (arith, line-room _ _ _ _ (c .before .before .before .before .before .before .before .before .before .before .before .before .before .before .pre))
+write-file-path-requires c κs =
+    let start : tie.Start = search in
+    let l = start .pre .0 in
+    (l, omega (arith, line-room _ _ _ _ (start .pre .1 l)))
 
 write-bytes-requires : tie.Need-write-bytes-requires
 write-bytes-requires c κs =
-    let path = c .before .before .before .before in
-    comma-room _ _ _ _ (path .before .before .before .before .before .before .before .before .before .before .before .before .before .before .before .pre) (path .write-file-path .ensures)
+    let start : tie.Start = search in
+    let path : tie.After-write-file-path = search in
+    let l = start .pre .0 in
+    comma-room _ _ _ _ (start .pre .1 l) (path .write-file-path .ensures l)
 
 write-delete-path-requires : tie.Need-write-delete-path-requires
 write-delete-path-requires c κs =
-    let comma = c .before .before .before in
-    let path = comma .before .before .before .before .before in
-    delete-room _ _ _ _ (path .before .before .before .before .before .before .before .before .before .before .before .before .before .before .before .pre) (path .write-file-path .ensures) (comma .write-bytes .ensures)
+    let start : tie.Start = search in
+    let path : tie.After-write-file-path = search in
+    let comma : tie.After-write-bytes = search in
+    (start .pre .0, λ l. delete-room _ _ _ _ (start .pre .1 l) (path .write-file-path .ensures l) (comma .write-bytes .ensures))
 
 write-bytes-requires-2 : tie.Need-write-bytes-requires-2
 write-bytes-requires-2 c κs =
-    let delete = c .before .before .before .before in
-    let comma = delete .before .before .before .before in
-    let path = comma .before .before .before .before .before in
-    line-feed-room _ _ _ _ (path .before .before .before .before .before .before .before .before .before .before .before .before .before .before .before .pre) (path .write-file-path .ensures) (comma .write-bytes .ensures) (delete .write-delete-path .ensures)
+    let start : tie.Start = search in
+    let comma : tie.After-write-bytes = search in
+    let path = path-of comma in
+    let delete : tie.After-write-delete-path = search in
+    let l = start .pre .0 in
+    line-feed-room _ _ _ _ (start .pre .1 l) (path .write-file-path .ensures l) (comma .write-bytes .ensures) (delete .write-delete-path .ensures l)
 
 returns : tie.Need-returns
-returns c =
-    let delete = c .before .before .before .before .before .before .before in
-    let comma = delete .before .before .before .before in
-    let path = comma .before .before .before .before .before in
-    line-written _ _ _ _ (path .before .before .before .before .before .before .before .before .before .before .before .before .before .before .before .pre) (path .write-file-path .ensures) (comma .write-bytes .ensures) (delete .write-delete-path .ensures) (c .before .before .write-bytes2 .ensures)
+returns c l =
+    let start : tie.Start = search in
+    let comma : tie.After-write-bytes = search in
+    let path = path-of comma in
+    let delete : tie.After-write-delete-path = search in
+    let end : tie.After-write-bytes2 = search in
+    line-written _ _ _ _ (start .pre .1 l) (path .write-file-path .ensures l) (comma .write-bytes .ensures) (delete .write-delete-path .ensures l)
+    (end .write-bytes2 .ensures)
 
 pub write-line-spec : {M : Type 1} → statement M
 write-line-spec =

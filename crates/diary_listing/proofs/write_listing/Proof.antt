@@ -2,38 +2,58 @@
 use borrow.Author.Needs.{needs}
 use mathlib.Core.Path.{sym}
 use lib.Seq.{length-take-le}
+use Rattle.file_lookup.proofs.Places as lookup
+use Rattle.scans.proofs.Lent.{files-lent}
 use Rattle.diary_listing.proofs.Answers.{outcome-fits}
 use Rattle.diary_listing.proofs.Lines.{header-room, lines-room, listing-written}
 use Rattle.diary_listing.proofs.write_listing.Statement.{statement}
 use Rattle.diary_listing.proofs.write_listing.Tie as tie
 
+-- further back than a search from the later places goes
+abbrev begun : tie.After-check → tie.Start
+begun c = search
+
+list-table-files-requires : tie.Need-list-table-files-requires
+list-table-files-requires c κs = let checked : tie.After-check = search in files-lent _ _ (checked .check .ensures)
+
 write-bytes-requires : tie.Need-write-bytes-requires
 write-bytes-requires c κs =
-    let read = c .before .before .before .before in
-    header-room _ _ _ (read .before .before .before .before .before .before .before .before .before .before .before .before .before .before .before .before .pre) (read .catalog-list-files .ensures)
+    let checked : tie.After-check = search in
+    let read : tie.After-list-table-files = search in
+    header-room _ _ _ (begun checked .pre) (read .list-table-files .ensures (files-lent _ _ (checked .check .ensures)))
 
 slice-reshare-prefix-write-lines : tie.Need-slice-reshare-prefix-write-lines
 slice-reshare-prefix-write-lines c =
-    let read = c .before .before .before .before .before .before .before .catalog-list-files in
-    outcome-fits _ _ _ _ (read .ensures) (read .kept .1 .1 .1 .1 .1 .1 .1 .1 .1 .1 .1 .1 .1 .1 .1 .0)
+    let checked : tie.After-check = search in
+    let read : tie.After-list-table-files = search in
+    outcome-fits _ _ _ _ (read .list-table-files .ensures (files-lent _ _ (checked .check .ensures))) (read .list-table-files .kept .1 .1 .1 .1 .1 .1 .1 .1 .1 .0)
 
 slice-aggregate-write-lines : tie.Need-slice-aggregate-write-lines
 slice-aggregate-write-lines c =
-    let read = c .before .before .before .before .before .before .before .before .catalog-list-files in
-    sym (length-take-le _ _ (outcome-fits _ _ _ _ (read .ensures) (read .kept .1 .1 .1 .1 .1 .1 .1 .1 .1 .1 .1 .1 .1 .1 .1 .0)))
+    let checked : tie.After-check = search in
+    let read : tie.After-list-table-files = search in
+    sym (length-take-le _ _ (outcome-fits _ _ _ _ (read .list-table-files .ensures (files-lent _ _ (checked .check .ensures))) (read .list-table-files .kept .1 .1 .1 .1 .1 .1 .1 .1 .1 .0)))
 
 write-lines-requires : tie.Need-write-lines-requires
 write-lines-requires c κs =
-    let read = c .before .before .before .before .before .before .before .before .before in
-    lines-room _ _ _ (read .before .before .before .before .before .before .before .before .before .before .before .before .before .before .before .before .pre) (read .catalog-list-files .ensures) (c .before .before .before .before .write-bytes .ensures)
+    let checked : tie.After-check = search in
+    let read : tie.After-list-table-files = search in
+    let header : tie.After-write-bytes = search in (
+      lookup.files-lent _ _ (checked .check .ensures),
+      λ l. lines-room _ _ _ (begun checked .pre) (read .list-table-files .ensures (files-lent _ _ (checked .check .ensures))) (header .write-bytes .ensures) (l .words),
+    )
 
 returns : tie.Need-returns
 returns c =
-    let read = c .before .before .before .before .before .before .before .before .before .before .before .before in
-    listing-written _ _ _ (read .before .before .before .before .before .before .before .before .before .before .before .before .before .before .before .before .pre) (read .catalog-list-files .ensures) (c .before .before .before .before .before .before .before .write-bytes .ensures) (c .before .before .write-lines .ensures)
+    let checked : tie.After-check = search in
+    let read : tie.After-list-table-files = search in
+    let header : tie.After-write-bytes = search in
+    let written : tie.After-write-lines = search in
+    listing-written _ _ _ (begun checked .pre) (read .list-table-files .ensures (files-lent _ _ (checked .check .ensures))) (header .write-bytes .ensures)
+    (written .write-lines .ensures (lookup.files-lent _ _ (checked .check .ensures)))
 
 pub write-listing-spec : {M : Type 1} → statement M
 write-listing-spec =
     tie.close
-    (tie.spec (λ c κs. search needs) (λ c. search needs) write-bytes-requires slice-reshare-prefix-write-lines slice-aggregate-write-lines write-lines-requires
+    (tie.spec (λ c κs. search needs) list-table-files-requires (λ c. search needs) write-bytes-requires slice-reshare-prefix-write-lines slice-aggregate-write-lines write-lines-requires
     (λ c. search needs) (λ c. search needs) returns)

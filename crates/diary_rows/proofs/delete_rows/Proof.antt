@@ -4,19 +4,21 @@ use mathlib.Core.Path.{refl, _∙_}
 use Rattle.ducklake.specs.Calls.{perform}
 use Rattle.diary_session.specs.Session.{deleteZero}
 use Rattle.diary_session.proofs.Chains.{promise-on}
-use Rattle.catalog_deletes.proofs.delete.catalog_delete.Reads as catalog-delete-reads
 use Rattle.diary_rows.proofs.delete_rows.Statement.{statement}
 use Rattle.diary_rows.proofs.delete_rows.Tie as tie
-use Rattle.diary_rows.proofs.delete_rows.Reads as reads
-use Rattle.diary_rows.proofs.delete_rows.Lts as lts
 
--- what is known after the second delete
-abbrev second : lts.After-slice-known39 (catalog-delete-reads.Asked, catalog-delete-reads.Learnt) reads.Pre reads.Post → lts.After-catalog-delete2 (catalog-delete-reads.Asked, catalog-delete-reads.Learnt) reads.Pre reads.Post
-second c = c .before .before .before .before .before .before .before .before .before .before .before .before .before .before .before .before .before .before .before .before .before .before .before .before .before .before
+-- what is known after the second, and after the first
+abbrev second : tie.After-slice-known39 → tie.After-catalog-delete2
+second c = search
 
--- and after the first
-abbrev first : lts.After-slice-known39 (catalog-delete-reads.Asked, catalog-delete-reads.Learnt) reads.Pre reads.Post → lts.After-catalog-delete (catalog-delete-reads.Asked, catalog-delete-reads.Learnt) reads.Pre reads.Post
-first c = second c .before .before .before .before .before .before .before .before .before .before .before .before .before .before .before .before .before .before .before .before .before .before .before .before .before .before .before .before .before .before .before .before .before .before .before .before .before .before .before .before .before
+abbrev between : tie.After-catalog-delete2 → tie.After-slice-known26
+between c = search
+
+abbrev first-of : tie.After-slice-known26 → tie.After-catalog-delete
+first-of c = search
+
+abbrev first : tie.After-slice-known39 → tie.After-catalog-delete
+first c = first-of (between (second c))
 
 same-length : tie.Need-same-length
 same-length c = second c .catalog-delete2 .kept .0 ∙ first c .catalog-delete .kept .0

@@ -4,19 +4,21 @@ use mathlib.Core.Path.{refl, _∙_}
 use Rattle.ducklake.specs.Calls.{perform}
 use Rattle.diary_session.specs.Session.{insertTwo}
 use Rattle.diary_session.proofs.Chains.{promise-on}
-use Rattle.catalog_inserts.proofs.insert.catalog_insert.Reads as catalog-insert-reads
 use Rattle.diary_rows.proofs.insert_rows.Statement.{statement}
 use Rattle.diary_rows.proofs.insert_rows.Tie as tie
-use Rattle.diary_rows.proofs.insert_rows.Reads as reads
-use Rattle.diary_rows.proofs.insert_rows.Lts as lts
 
--- what is known after the second insert
-abbrev two : lts.After-slice-known39 (catalog-insert-reads.Asked, catalog-insert-reads.Learnt) reads.Pre reads.Post → lts.After-catalog-insert2 (catalog-insert-reads.Asked, catalog-insert-reads.Learnt) reads.Pre reads.Post
-two c = c .before .before .before .before .before .before .before .before .before .before .before .before .before .before .before .before .before .before .before .before .before .before .before .before .before .before
+-- what is known after the second, and after the first
+abbrev two : tie.After-slice-known39 → tie.After-catalog-insert2
+two c = search
 
--- and after the first
-abbrev three : lts.After-slice-known39 (catalog-insert-reads.Asked, catalog-insert-reads.Learnt) reads.Pre reads.Post → lts.After-catalog-insert (catalog-insert-reads.Asked, catalog-insert-reads.Learnt) reads.Pre reads.Post
-three c = two c .before .before .before .before .before .before .before .before .before .before .before .before .before .before .before .before .before .before .before .before .before .before .before .before .before .before .before .before .before .before .before .before .before .before .before .before .before .before .before .before .before
+abbrev between : tie.After-catalog-insert2 → tie.After-slice-known26
+between c = search
+
+abbrev three-of : tie.After-slice-known26 → tie.After-catalog-insert
+three-of c = search
+
+abbrev three : tie.After-slice-known39 → tie.After-catalog-insert
+three c = three-of (between (two c))
 
 same-length : tie.Need-same-length
 same-length c = two c .catalog-insert2 .kept .0 ∙ three c .catalog-insert .kept .0

@@ -5,21 +5,21 @@ use Rattle.diary_session.proofs.Chains.{promise-on}
 use Rattle.diary_start.proofs.ColumnNames.{promise-named}
 use Rattle.ducklake.specs.Calls.{perform}
 use Rattle.diary_session.specs.Session.{createDiary}
-use Rattle.catalog_fresh.proofs.fresh.catalog_fresh.Reads as catalog-fresh-reads
-use Rattle.names.proofs.write_name.Reads as write-name-reads
-use Rattle.catalog_tables.proofs.create_table.catalog_create_table.Reads as catalog-create-table-reads
 use Rattle.diary_start.proofs.start_diary.Statement.{statement}
 use Rattle.diary_start.proofs.start_diary.Tie as tie
-use Rattle.diary_start.proofs.start_diary.Reads as reads
-use Rattle.diary_start.proofs.start_diary.Lts as lts
 
--- what is known after the table is made
-abbrev created : lts.After-slice-known39 (catalog-fresh-reads.Asked, catalog-fresh-reads.Learnt, write-name-reads.Asked, write-name-reads.Learnt, catalog-create-table-reads.Asked, catalog-create-table-reads.Learnt) reads.Pre reads.Post → lts.After-catalog-create-table (catalog-fresh-reads.Asked, catalog-fresh-reads.Learnt, write-name-reads.Asked, write-name-reads.Learnt, catalog-create-table-reads.Asked, catalog-create-table-reads.Learnt) reads.Pre reads.Post
-created c = c .before .before .before .before .before .before .before .before .before .before .before .before .before .before .before .before .before .before .before .before .before .before .before .before .before .before
+-- what is known after the table is made, after its columns are named, and after Fresh
+abbrev created : tie.After-slice-known39 → tie.After-catalog-create-table
+created c = search
 
--- and after Fresh
-abbrev fresh : lts.After-slice-known39 (catalog-fresh-reads.Asked, catalog-fresh-reads.Learnt, write-name-reads.Asked, write-name-reads.Learnt, catalog-create-table-reads.Asked, catalog-create-table-reads.Learnt) reads.Pre reads.Post → lts.After-catalog-fresh (catalog-fresh-reads.Asked, catalog-fresh-reads.Learnt, write-name-reads.Asked, write-name-reads.Learnt, catalog-create-table-reads.Asked, catalog-create-table-reads.Learnt) reads.Pre reads.Post
-fresh c = created c .before .before .before .before .before .before .before .before .before .before .before .before .before .before .before .before .before .before .before .before .before .before .before .before .before .before .before .before .before .before .before .before .before .before .before .before .before .before .before .before .before .before .before .before .before .before .before .before .before .before .before
+abbrev named : tie.After-catalog-create-table → tie.After-write-name2
+named c = search
+
+abbrev begun : tie.After-write-name2 → tie.After-catalog-fresh
+begun c = search
+
+abbrev fresh : tie.After-slice-known39 → tie.After-catalog-fresh
+fresh c = begun (named (created c))
 
 same-length : tie.Need-same-length
 same-length c = created c .catalog-create-table .kept .0 ∙ fresh c .catalog-fresh .kept .0
@@ -62,9 +62,10 @@ same-length-13 c = created c .catalog-create-table .kept .1 .1 .1 .1 .1 .1 .1 .1
 
 returns : tie.Need-returns
 returns c =
-    let price = created c .before .before .before .before .before .before .before .before .before .before .before .before .before .before .before .before .before .before in
+    let price : tie.After-write-name2 = named (created c) in
+    let item : tie.After-write-name = search in
     promise-on (perform createDiary) (fresh c .catalog-fresh .ensures)
-    (promise-named _ _ _ (price .before .before .before .before .write-name .ensures) (price .write-name2 .ensures) (created c .catalog-create-table .ensures))
+    (promise-named _ _ _ (item .write-name .ensures) (price .write-name2 .ensures) (created c .catalog-create-table .ensures))
 
 pub start-diary-spec : {M : Type 1} → statement M
 start-diary-spec =

@@ -15,7 +15,7 @@ use Rattle.layout.specs.Words.{Words}
 use Rattle.ducklake.specs.Refusals.{accepted}
 use Rattle.ducklake.specs.Commits.{createTable, insert, delete, dropTable}
 use Rattle.ducklake.specs.Readings.{files, filteredFiles, rows}
-use Rattle.ducklake.specs.Calls.{Call, commitAt, expireSnapshots, cleanUp, performFresh, queryAt, byTime}
+use Rattle.ducklake.specs.Calls.{Call, commitAt, atTime, expireSnapshots, cleanUp, performFresh, queryAt, byTime}
 use Rattle.ducklake.proofs.cases.Names.{int64, bytes, bounded, unbounded}
 use Rattle.ducklake.proofs.cases.Sessions.{Case, reads, calls, scheduled, passes, soundThroughout}
 
@@ -56,21 +56,21 @@ area = replicate 6 9
 -- "110: table `diary` in schema 0, `item` int64 without nulls, `price` int64 with."
 create : Call
 create =
-    commitAt 110 (createTable 0 (bytes "diary") (int64 ∷ 0 ∷ int64 ∷ 1 ∷ []) (padded (bytes "item") ++ padded (bytes "price")))
+    commitAt (atTime 110) (createTable 0 (bytes "diary") (int64 ∷ 0 ∷ int64 ∷ 1 ∷ []) (padded (bytes "item") ++ padded (bytes "price")))
 
 -- "120: 3 rows, item 1 to 3, price 9 to 14, no nulls. 130: 2 rows, item 4 to 5, price 20 to 20, one null."
 insertThree : Call
-insertThree = commitAt 120 (insert 1 3 (uuidOf 0 1) (bounded 1 0 1 3 ++ bounded 2 0 9 14))
+insertThree = commitAt (atTime 120) (insert 1 3 (uuidOf 0 1) (bounded 1 0 1 3 ++ bounded 2 0 9 14))
 
 insertTwo : Call
-insertTwo = commitAt 130 (insert 1 2 (uuidOf 0 2) (bounded 1 0 4 5 ++ bounded 2 1 20 20))
+insertTwo = commitAt (atTime 130) (insert 1 2 (uuidOf 0 2) (bounded 1 0 4 5 ++ bounded 2 1 20 20))
 
 -- "140: delete position 1 of file 0. 150: delete position 0 of file 0."
 deleteOne : Call
-deleteOne = commitAt 140 (delete 0 (uuidOf 0 3) (1 ∷ []))
+deleteOne = commitAt (atTime 140) (delete 0 (uuidOf 0 3) (1 ∷ []))
 
 deleteZero : Call
-deleteZero = commitAt 150 (delete 0 (uuidOf 0 4) (0 ∷ []))
+deleteZero = commitAt (atTime 150) (delete 0 (uuidOf 0 4) (0 ∷ []))
 
 to150 : List Call
 to150 = create ∷ insertThree ∷ insertTwo ∷ deleteOne ∷ deleteZero ∷ []
@@ -82,7 +82,7 @@ to160 = to150 ++ (expireSnapshots (4 ∷ []) 160 ∷ [])
 unfoldable pub toEnd : List Call
 unfolding create insertThree insertTwo deleteOne deleteZero to150 to160
 toEnd =
-    to160 ++ (cleanUp 160 ∷ cleanUp 161 ∷ commitAt 170 (dropTable 1) ∷ expireSnapshots (0 ∷ 1 ∷ 2 ∷ 3 ∷ 5 ∷ []) 180 ∷ [])
+    to160 ++ (cleanUp 160 ∷ cleanUp 161 ∷ commitAt (atTime 170) (dropTable 1) ∷ expireSnapshots (0 ∷ 1 ∷ 2 ∷ 3 ∷ 5 ∷ []) 180 ∷ [])
 
 rowsAt : ℕ → List ℕ → Case
 rowsAt s words = record { session = to150; probe = reads (queryAt s (rows 1)); number = accepted; words = words }
@@ -117,14 +117,14 @@ misread : List Case
 misread =
     -- "Reusing ids after expiry.": a file inserted after the cleanup of file 2 is file 4
     record {
-      session = to160 ++ (cleanUp 161 ∷ commitAt 165 (insert 1 1 (uuidOf 0 5) (unbounded 1 0 ++ unbounded 2 1)) ∷ []);
+      session = to160 ++ (cleanUp 161 ∷ commitAt (atTime 165) (insert 1 1 (uuidOf 0 5) (unbounded 1 0 ++ unbounded 2 1)) ∷ []);
       probe = reads (queryAt 6 (files 1));
       number = accepted;
       words = 0 ∷ 3 ∷ 1 ∷ absent ∷ 4 ∷ absent ∷ [];
     }
     -- "Scheduling by end alone, though an older snapshot is retained.": the dropped table's files are still listed at 5
     ∷ record {
-      session = to160 ++ (commitAt 170 (dropTable 1) ∷ expireSnapshots (0 ∷ 1 ∷ 2 ∷ 3 ∷ []) 175 ∷ []);
+      session = to160 ++ (commitAt (atTime 170) (dropTable 1) ∷ expireSnapshots (0 ∷ 1 ∷ 2 ∷ 3 ∷ []) 175 ∷ []);
       probe = scheduled;
       number = accepted;
       words = 2 ∷ 160 ∷ [];

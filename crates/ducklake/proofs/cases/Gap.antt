@@ -14,7 +14,7 @@ use Rattle.ducklake.specs.Refusals.{accepted}
 use Rattle.ducklake.specs.Kinds.{createdSchema, insertedIntoTable, deletedFromTable}
 use Rattle.ducklake.specs.Soundness.{sound}
 use Rattle.ducklake.specs.Commits.{delete}
-use Rattle.ducklake.specs.Calls.{commitAt, Result, perform, noCounts}
+use Rattle.ducklake.specs.Calls.{commitAt, atTime, Result, perform, noCounts}
 use Rattle.ducklake.proofs.cases.Names.{int64, bytes}
 use Rattle.ducklake.proofs.cases.Sessions.{passes}
 
@@ -53,7 +53,7 @@ tables : Words
 tables = store lent noCounts gap
 
 deleted : Result
-deleted = perform (commitAt 0 (delete 0 (uuidOf 0 3) (1 ∷ []))) tables (countsOf gap) []
+deleted = perform (commitAt (atTime 0) (delete 0 (uuidOf 0 3) (1 ∷ []))) tables (countsOf gap) []
 
 sound-before : sound tables (countsOf gap) ≡ true
 unfolding snapshot gap lent tables passes

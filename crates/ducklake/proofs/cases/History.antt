@@ -10,7 +10,7 @@ use Rattle.layout.specs.Fields.{snapshotSize, schemaSize, tableSize, columnSize
 use Rattle.layout.specs.Records.{uuidOf}
 use Rattle.layout.specs.Names.{nameSize, padded}
 use Rattle.layout.specs.Words.{Words}
-use Rattle.ducklake.specs.Calls.{Call, commitAt, expireSnapshots, cleanUp, noCounts}
+use Rattle.ducklake.specs.Calls.{Call, commitAt, atTime, expireSnapshots, cleanUp, noCounts}
 use Rattle.ducklake.specs.Commits.{createTable, insert, dropTable}
 use Rattle.ducklake.specs.Journal.{emptyJournal, journaled}
 use Rattle.ducklake.specs.Claim.{Step, State, isRetained, readingOf, isListed, fallenBetween, run, step, freshState, whenMade}
@@ -67,9 +67,9 @@ made = refl
 -- a table with one file, dropped; then every snapshot that lists the file expires at 7, and a cleanup hands it out
 short : List Call
 short =
-    commitAt 101 (createTable 0 (bytes "t") (int64 ∷ 0 ∷ []) (padded (bytes "t")))
-    ∷ commitAt 102 (insert 1 1 (uuidOf 0 1) (unbounded 1 0))
-    ∷ commitAt 103 (dropTable 1)
+    commitAt (atTime 101) (createTable 0 (bytes "t") (int64 ∷ 0 ∷ []) (padded (bytes "t")))
+    ∷ commitAt (atTime 102) (insert 1 1 (uuidOf 0 1) (unbounded 1 0))
+    ∷ commitAt (atTime 103) (dropTable 1)
     ∷ []
 
 shown : State

@@ -41,7 +41,7 @@
 --   expire: time, snapshots ..                     pathOfFile: UUID high and low; the answer is its bytes
 --   cleanup: t
 use Prim.Native.Nat.{ℕ, zero, suc, _+_, _*_, _-_, _/_, _%_, _^_}
-use mathlib.Core.Bool.{Bool, true, false, not, cond, _&&_, _||_}
+use mathlib.Core.Bool.{Bool, true, not, cond, _&&_, _||_}
 use mathlib.Core.List.{List, [], _∷_, _++_}
 use lib.Dec.{ltb, eqb}
 use lib.IntN.{ℤ, pos, negsuc}
@@ -55,7 +55,7 @@ use Rattle.layout.specs.Words.{Words}
 use Rattle.ducklake.specs.Refusals.{accepted}
 use Rattle.ducklake.specs.Commits.{Commit}
 use Rattle.ducklake.specs.Readings.{Query}
-use Rattle.ducklake.specs.Calls.{Call, commitAt, expireSnapshots, cleanUp, Result, perform, performFresh, Reading, queryAt, byTime, performReading}
+use Rattle.ducklake.specs.Calls.{commitAt, atTime, expireSnapshots, cleanUp, Result, perform, performFresh, queryAt, byTime, performReading}
 use Rattle.ducklake.specs.Lookup.{FilePlace, inDataFiles, inDeleteFiles, nowhere, lookup, performLookup}
 use Rattle.ducklake.specs.Paths.{path, uuidText}
 use Rattle.ducklake.proofs.cases.Sessions.{passes}
@@ -184,7 +184,7 @@ partOf nowhere = []
 resultOf : ℕ → List ℕ → Words → Counts → List ℕ → Result
 resultOf code xs w c area =
     cond (eqb code fresh) (performFresh (arg 0 xs) w c area)
-    (cond (ltb code expire) (perform (commitAt (arg 0 xs) (commitOf code (drop 1 xs))) w c area)
+    (cond (ltb code expire) (perform (commitAt (atTime (arg 0 xs)) (commitOf code (drop 1 xs))) w c area)
     (cond (eqb code expire) (perform (expireSnapshots (drop 1 xs) (arg 0 xs)) w c area)
     (cond (eqb code cleanup) (perform (cleanUp (arg 0 xs)) w c area)
     (cond (ltb code snapshotByTime) (performReading (queryAt (arg 0 xs) (queryOf code (drop 1 xs))) w c area)

@@ -4,27 +4,30 @@ use mathlib.Core.Path.{_≡_, refl, sym, ap, _∙_}
 use mathlib.Core.List.{List, [], _∷_, _++_, map, append-nil, flatMap}
 use mathlib.Core.Bool.{true, false, not, _||_}
 use native.Mathlib.Omega.{arith}
-use lib.Dec.{eqb, ltb}
+use lib.Dec.{leb, eqb, ltb}
+use lib.ListN.{length}
 use borrow.Author.Tests.{ne-eqb}
 use Rattle.lists.specs.Lists.{all, filter, has, bit, count}
 use Rattle.lists.proofs.Tests.{if, clash, both}
+use Rattle.layout.specs.declared.outcome.Counts.{Counts}
+use Rattle.layout.specs.declared.outcome.Terms.{Terms}
+use Rattle.layout.specs.Words.{Words, load}
 use Rattle.layout.specs.Catalog.{absent, Scheduled, Catalog}
 use Rattle.ducklake.specs.Liveness.{retained, latest, latestId}
-use Rattle.ducklake.specs.Soundness.{fileIds}
-use Rattle.ducklake.specs.Refusals.{badExpiryList, expiresLatest, notRetained, numberTooLarge}
-use Rattle.ducklake.specs.Arguments.{expiryListFits}
+use Rattle.ducklake.specs.Soundness.{fileIds, sound}
+use Rattle.ducklake.specs.Refusals.{accepted, notSound, noRoom, shortAnswerArea, expiresLatest, notRetained, numberTooLarge, need, first}
 use Rattle.ducklake.specs.Commits.{Commit, changeOf, nextSnapshot, commit, numbersFit}
-use Rattle.ducklake.specs.Readings.{Query, queryAnswer, judgeQuery}
+use Rattle.ducklake.specs.Readings.{Query, queryAnswer, queryRefusals}
 use Rattle.ducklake.specs.Maintenance.{expire, due, handedOut, cleanup}
-use Rattle.ducklake.specs.Calls.{Call, commitAt, expireSnapshots, cleanUp, judgeCommit, judgeCall, effect, answer}
+use Rattle.ducklake.specs.Calls.{Call, commitAt, expireSnapshots, cleanUp, refusals, callRefusals, effect, answer, hasRoom, refusal}
 use Rattle.ducklake.specs.Journal.{Journal}
 use Rattle.ducklake.specs.Claim.{journalAfter, expiredBy, fileIdsOf, timeOf}
 use Rattle.ducklake.proofs.facts.Facts.{Sound}
-use Rattle.ducklake.proofs.facts.Needs.{need-passed}
+use Rattle.ducklake.proofs.facts.Needs.{NumberedFrom, AllPassed, need-passed, numbered-append, first-append, first-zero, first-passed}
 use Rattle.ducklake.proofs.commits.Good.{Good, Chain}
 use Rattle.ducklake.proofs.readings.Frames.{commit-judge, commit-answer, expire-judge, expire-answer, cleanup-judge, cleanup-answer}
 use Rattle.ducklake.proofs.commits.Soundness.{commit-latest, next-small, commit-count, commit-sound}
-use Rattle.ducklake.proofs.commits.Changes.{judge-rest, change-good}
+use Rattle.ducklake.proofs.commits.Changes.{numbered, change-good}
 use Rattle.ducklake.proofs.expiry.Expire.{expire-latest, expire-count, expire-sound, cleanup-count, cleanup-sound}
 use Rattle.ducklake.proofs.claim.Chains.{commit-chain, expire-chain, cleanup-chain}
 use Rattle.ducklake.proofs.journal.Journals.{JournalOk, commit-journal, expire-journal, cleanup-journal}
@@ -41,7 +44,7 @@ ids-of (x ∷ xs) = ap (λ (ks : List ℕ). x .file ∷ ks) (ids-of xs)
 pub record Stays (C C′ : Catalog) : Type 0 where
   pub later : latestId C ≤ latestId C′
   pub had : (s : ℕ) → retained (C′ .snapshots) s ≡ true → s ≤ latestId C → retained (C .snapshots) s ≡ true
-  pub judged : (s : ℕ) → retained (C′ .snapshots) s ≡ true → s ≤ latestId C → (q : Query) (rest : ℕ) → judgeQuery C′ s q rest ≡ judgeQuery C s q rest
+  pub judged : (s : ℕ) → retained (C′ .snapshots) s ≡ true → s ≤ latestId C → (q : Query) (rest : ℕ) → first (queryRefusals C′ s q) rest ≡ first (queryRefusals C s q) rest
   pub answered : (s : ℕ) → retained (C′ .snapshots) s ≡ true → s ≤ latestId C → (q : Query) → queryAnswer C′ s q ≡ queryAnswer C s q
 
 pub record Moved (C : Catalog) (k : Call) : Type 0 where
@@ -54,35 +57,35 @@ pub record Moved (C : Catalog) (k : Call) : Type 0 where
   pub counted : (i : ℕ) → count (λ j. eqb j i) (fileIds (effect C k)) + (count (λ j. eqb j i) (fileIdsOf (answer C k)) + bit (ltb i (latest C .nextFileId)))
       ≡ count (λ j. eqb j i) (fileIds C) + bit (ltb i (latest (effect C k) .nextFileId))
 
-committed : (C : Catalog) → Sound C → Chain C → (time : ℕ) (k : Commit) → judgeCommit C time k 0 ≡ 0 → numbersFit C (changeOf C time k) ≡ true → Moved C (commitAt time k)
+committed : (C : Catalog) → Sound C → Chain C → (terms : Terms) (k : Commit) → AllPassed (refusals C terms k) → numbersFit C (changeOf C (terms .time) k) ≡ true → Moved C (commitAt terms k)
 unfolding effect answer count
-committed C S H time k h n = record {
-  sound = commit-sound C (changeOf C time k) S G;
-  chain = commit-chain C S H time k h n;
+committed C S H terms k h n = record {
+  sound = commit-sound C (changeOf C (terms .time) k) S G;
+  chain = commit-chain C S H terms k h;
   stays = record {
     later = omega (arith, e);
     had = λ s r l. had s r l;
-    judged = λ s r l. commit-judge C (changeOf C time k) s l small;
-    answered = λ s r l. commit-answer C (changeOf C time k) s l small S (G .statisticsNew);
+    judged = λ s r l. commit-judge C (changeOf C (terms .time) k) s l small;
+    answered = λ s r l. commit-answer C (changeOf C (terms .time) k) s l small S (G .statisticsNew);
   };
-  journal = commit-journal C S H time k h n;
-  tally = λ X T. rw (append-nil X) (commit-tally C (changeOf C time k) X T);
-  falls = commit-falls C (changeOf C time k) S G (commit-sound C (changeOf C time k) S G) time;
-  counted = λ i. omega (arith, commit-count C (changeOf C time k) i, ap (λ m. bit (ltb i (m .nextFileId))) (commit-latest C (changeOf C time k)));
+  journal = commit-journal C S H terms k h n;
+  tally = λ X T. rw (append-nil X) (commit-tally C (changeOf C (terms .time) k) X T);
+  falls = commit-falls C (changeOf C (terms .time) k) S G (commit-sound C (changeOf C (terms .time) k) S G) (terms .time);
+  counted = λ i. omega (arith, commit-count C (changeOf C (terms .time) k) i, ap (λ m. bit (ltb i (m .nextFileId))) (commit-latest C (changeOf C (terms .time) k)));
 }
   where
-    G : Good C (changeOf C time k)
-    G = change-good C S H time k h n
+    G : Good C (changeOf C (terms .time) k)
+    G = change-good C S H terms k h n
 
     small : suc (latestId C) < absent
-    small = next-small C (changeOf C time k) G
+    small = next-small C (changeOf C (terms .time) k) G
 
-    e : latestId (commit C (changeOf C time k)) ≡ suc (latestId C)
-    e = unfold nextSnapshot in ap (λ m. m .id) (commit-latest C (changeOf C time k))
+    e : latestId (commit C (changeOf C (terms .time) k)) ≡ suc (latestId C)
+    e = unfold nextSnapshot in ap (λ m. m .id) (commit-latest C (changeOf C (terms .time) k))
 
-    had : (s : ℕ) → retained (commit C (changeOf C time k) .snapshots) s ≡ true → s ≤ latestId C → retained (C .snapshots) s ≡ true
+    had : (s : ℕ) → retained (commit C (changeOf C (terms .time) k) .snapshots) s ≡ true → s ≤ latestId C → retained (C .snapshots) s ≡ true
     had s r l =
-        let q : (retained (C .snapshots) s || eqb (suc (latestId C)) s) ≡ true = sym (retained-commit C (changeOf C time k) s) ∙ r in
+        let q : (retained (C .snapshots) s || eqb (suc (latestId C)) s) ≡ true = sym (retained-commit C (changeOf C (terms .time) k) s) ∙ r in
         let z : eqb (suc (latestId C)) s ≡ false = ne-eqb (suc (latestId C)) s (λ m. omega arith) in
         if (retained (C .snapshots) s) (λ b. b) (λ b. clash (rw (b, z) at q) refl)
 
@@ -123,27 +126,22 @@ cleaned C S H t = record {
   counted = λ i. rw (ids-of (filter (due t) (C .scheduled))) (omega (arith, cleanup-count C t i));
 }
 
--- the tests of a call come to 0 just where each is passed and the rest is 0
-pub judge-call : (C : Catalog) (k : Call) (rest : ℕ) → judgeCall C k rest ≡ 0 → (judgeCall C k 0 ≡ 0) × (rest ≡ 0)
-unfolding judgeCall
-judge-call C (commitAt time k) rest h =
-    let a = judge-rest C time k _ h in
-    let b = need-passed numberTooLarge (numbersFit C (changeOf C time k)) rest (omega arith) (a .1) in
-    (rw (b .0) (a .0), b .1)
-judge-call C (expireSnapshots ids time) rest h =
-    let a = need-passed notRetained (all (retained (C .snapshots)) ids) _ (omega arith) h in
-    let b = need-passed badExpiryList (expiryListFits ids) _ (omega arith) (a .1) in
-    let d = need-passed expiresLatest (not (has (latestId C) ids)) rest (omega arith) (b .1) in
-    (rw (a .0, b .0, d .0), d .1)
-judge-call C (cleanUp t) rest h = (refl, h)
+pub numbered-call : (C : Catalog) (k : Call) → NumberedFrom 1 (callRefusals C k)
+numbered-call C (commitAt terms k) = numbered-append 1 (refusals C terms k) _ (numbered C terms k) (omega arith)
+numbered-call C (expireSnapshots ids time) = omega arith
+numbered-call C (cleanUp t) = tt
 
-pub moved : (C : Catalog) → Sound C → Chain C → (k : Call) → judgeCall C k 0 ≡ 0 → Moved C k
-unfolding judgeCall
-moved C S H (commitAt time k) h =
-    let a = judge-rest C time k _ h in
-    committed C S H time k (a .0) (need-passed numberTooLarge (numbersFit C (changeOf C time k)) 0 (omega arith) (a .1) .0)
+-- 1, then the call's own, then 2 and 3
+pub refusal-parts : (w : Words) (c : Counts) (m : ℕ) (k : Call) → refusal w c m k
+    ≡ need notSound (sound w c) (first (callRefusals (load w c) k) (need noRoom (hasRoom w (effect (load w c) k)) (need shortAnswerArea (leb (length (answer (load w c) k)) m) accepted)))
+unfolding refusal
+refusal-parts w c m k = ap (need notSound (sound w c)) (first-append (callRefusals (load w c) k) _ accepted)
+
+pub moved : (C : Catalog) → Sound C → Chain C → (k : Call) → first (callRefusals C k) 0 ≡ 0 → Moved C k
+moved C S H (commitAt terms k) h =
+    let a = first-zero (refusals C terms k) _ (numbered C terms k) (sym (first-append (refusals C terms k) _ 0) ∙ h) in
+    committed C S H terms k (first-passed (refusals C terms k) (numbered C terms k) (a .0)) (need-passed numberTooLarge (numbersFit C (changeOf C (terms .time) k)) 0 (omega arith) (a .1) .0)
 moved C S H (expireSnapshots ids time) h =
-    let a = need-passed notRetained (all (retained (C .snapshots)) ids) _ (omega arith) h in
-    let b = need-passed badExpiryList (expiryListFits ids) _ (omega arith) (a .1) in
-    expired C S H ids time (a .0) (need-passed expiresLatest (not (has (latestId C) ids)) 0 (omega arith) (b .1) .0)
+    let p = first-passed (callRefusals C (expireSnapshots ids time)) (omega arith) h in
+    expired C S H ids time (p notRetained) (p expiresLatest)
 moved C S H (cleanUp t) h = cleaned C S H t

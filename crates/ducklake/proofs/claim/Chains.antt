@@ -13,15 +13,16 @@ use Rattle.lists.proofs.Tests.{if, either, or-left}
 use Rattle.lists.proofs.Members.{In, here, in-left, in-right, in-map, in-filter, in-filter-of, All, each, Any, all-map, all-append}
 use Rattle.lists.proofs.Selections.{any-append, has-self, has-trans}
 use Rattle.lists.proofs.Orders.{any-sort}
+use Rattle.layout.specs.declared.outcome.Terms.{Terms}
 use Rattle.layout.specs.declared.record.Uuid.{Uuid}
 use Rattle.layout.specs.Catalog.{absent, Versioned, DataFile, DeleteFile, Catalog}
 use Rattle.ducklake.specs.Liveness.{latest, latestId, isLive, deletedAt}
-use Rattle.ducklake.specs.Refusals.{idOfFile, noSuchId}
-use Rattle.ducklake.specs.Commits.{Commit, createSchema, createTable, insert, delete, dropTable, dropSchema, Change, close, changeOf, commit, numbersFit}
+use Rattle.ducklake.specs.Refusals.{notLive}
+use Rattle.ducklake.specs.Commits.{Commit, createSchema, createTable, insert, delete, dropTable, dropSchema, Change, close, changeOf, commit}
 use Rattle.ducklake.specs.Maintenance.{expire, cleanup}
-use Rattle.ducklake.specs.Calls.{judgeCommit}
+use Rattle.ducklake.specs.Calls.{refusals}
 use Rattle.ducklake.proofs.facts.Facts.{DeleteFileIn, Sound}
-use Rattle.ducklake.proofs.facts.Needs.{need-passed}
+use Rattle.ducklake.proofs.facts.Needs.{AllPassed}
 use Rattle.ducklake.proofs.facts.Below.{dataFile-below}
 use Rattle.ducklake.proofs.commits.Moves.{close-step, close-named, close-other, in-born, latest-small}
 use Rattle.ducklake.proofs.commits.Good.{nextId, dataFileNext, deleteFileNext, bornDeleteFiles, bornDataFiles, Covers, Chain}
@@ -103,15 +104,15 @@ module _ (C : Catalog) (S : Sound C) (H : Chain C) where
       absurd (omega (arith, z, p, latest-small S .id)))
       (λ b. inl (close-other (suc (latestId C)) (λ d. eqb (d .body .table) k) e b ∙ q)))
 
-pub commit-chain : (C : Catalog) → Sound C → Chain C → (time : ℕ) (k : Commit) → judgeCommit C time k 0 ≡ 0 → numbersFit C (changeOf C time k) ≡ true → Chain (commit C (changeOf C time k))
-unfolding changeOf judgeCommit
-commit-chain C S H time (createSchema name) h n = ends-none C S H (changeOf C time (createSchema name)) (λ e. refl)
-commit-chain C S H time (createTable schema name columns names) h n = ends-none C S H (changeOf C time (createTable schema name columns names)) (λ e. refl)
-commit-chain C S H time (insert table recordCount uuid statistics) h n = ends-none C S H (changeOf C time (insert table recordCount uuid statistics)) (λ e. refl)
-commit-chain C S H time (delete dataFile uuid positions) h n =
-    delete-chain C S H time dataFile uuid positions (need-passed (noSuchId C idOfFile dataFile) (isLive (C .dataFiles) (latestId C) dataFile) _ (omega arith) h .0)
-commit-chain C S H time (dropTable table) h n = drop-chain C S H time table
-commit-chain C S H time (dropSchema schema) h n = ends-none C S H (changeOf C time (dropSchema schema)) (λ e. refl)
+pub commit-chain : (C : Catalog) → Sound C → Chain C → (terms : Terms) (k : Commit) → AllPassed (refusals C terms k) → Chain (commit C (changeOf C (terms .time) k))
+unfolding changeOf
+commit-chain C S H terms (createSchema name) h = ends-none C S H (changeOf C (terms .time) (createSchema name)) (λ e. refl)
+commit-chain C S H terms (createTable schema name columns names) h = ends-none C S H (changeOf C (terms .time) (createTable schema name columns names)) (λ e. refl)
+commit-chain C S H terms (insert table recordCount uuid statistics) h = ends-none C S H (changeOf C (terms .time) (insert table recordCount uuid statistics)) (λ e. refl)
+commit-chain C S H terms (delete dataFile uuid positions) h =
+    delete-chain C S H (terms .time) dataFile uuid positions (h notLive)
+commit-chain C S H terms (dropTable table) h = drop-chain C S H (terms .time) table
+commit-chain C S H terms (dropSchema schema) h = ends-none C S H (changeOf C (terms .time) (dropSchema schema)) (λ e. refl)
 
 pub expire-chain : (C : Catalog) → Sound C → Chain C → (ids : List ℕ) (time : ℕ) → not (has (latestId C) ids) ≡ true → Chain (expire C ids time)
 unfolding expire

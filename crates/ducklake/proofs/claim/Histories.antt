@@ -19,22 +19,22 @@ use Rattle.layout.specs.Words.{Words, load, store, countsOf, capacity, within, 
 use Rattle.layout.proofs.RoundTrip.{load-store, fits-store}
 use Rattle.ducklake.specs.Liveness.{latest, latestId}
 use Rattle.ducklake.specs.Soundness.{sound, fileIds}
-use Rattle.ducklake.specs.Refusals.{accepted, noRoom, notSound}
-use Rattle.ducklake.specs.Calls.{Call, commitAt, expireSnapshots, cleanUp, judgeCall, effect, answer, hasRoom, refusal, Result, perform}
+use Rattle.ducklake.specs.Refusals.{accepted, noRoom, notSound, first}
+use Rattle.ducklake.specs.Calls.{Call, commitAt, expireSnapshots, cleanUp, callRefusals, effect, answer, hasRoom, refusal, Result, perform}
 use Rattle.ducklake.specs.Claim.{Step, State, isListed, journalAfter, expiredBy, fileIdsOf, handedBy, timeOf, advanced, fallenBetween, acceptedStep, refusedStep, step, run}
 use Rattle.ducklake.proofs.facts.Facts.{Sound}
-use Rattle.ducklake.proofs.facts.Needs.{need-passed}
+use Rattle.ducklake.proofs.facts.Needs.{need-passed, first-zero}
 use Rattle.ducklake.proofs.commits.Good.{Chain}
 use Rattle.ducklake.proofs.claim.Retained.{Tally}
 use Rattle.ducklake.proofs.journal.Journals.{JournalOk}
 use Rattle.ducklake.proofs.claim.Listed.{fileListed, falls, entry}
 use Rattle.ducklake.proofs.claim.Tables.{named, catalogOf, Tables, listed-is}
-use Rattle.ducklake.proofs.claim.Accepted.{judge-call, Stays, Moved, moved}
+use Rattle.ducklake.proofs.claim.Accepted.{numbered-call, refusal-parts, Stays, Moved, moved}
 
 -- an accepted call: its number is 0, and it leaves the stored catalog
 
 pub record Performed (k : Call) (w : Words) (c : Counts) (area : List ℕ) : Type 0 where
-  pub judged : judgeCall (load w c) k accepted ≡ 0
+  pub judged : first (callRefusals (load w c) k) accepted ≡ 0
   pub room : within (countsOf (effect (load w c) k)) (capacity w) ≡ true
   pub words : perform k w c area .words ≡ store w c (effect (load w c) k)
   pub counts : perform k w c area .counts ≡ countsOf (effect (load w c) k)
@@ -43,11 +43,11 @@ pub record Performed (k : Call) (w : Words) (c : Counts) (area : List ℕ) : Typ
 front : (words area : List ℕ) → take (length words) (overwrite area 0 words) ≡ words
 front words area = ap (λ n. take n (overwrite area 0 words)) (sym (zero-add (length words))) ∙ overwrite-front area 0 words (omega arith)
 
-refusal-passed : (w : Words) (c : Counts) (n : ℕ) (k : Call) → refusal w c n k ≡ accepted → (judgeCall (load w c) k accepted ≡ 0) × (within (countsOf (effect (load w c) k)) (capacity w) ≡ true)
-unfolding refusal hasRoom
+refusal-passed : (w : Words) (c : Counts) (n : ℕ) (k : Call) → refusal w c n k ≡ accepted → (first (callRefusals (load w c) k) accepted ≡ 0) × (within (countsOf (effect (load w c) k)) (capacity w) ≡ true)
+unfolding hasRoom
 refusal-passed w c n k h =
-    let a = need-passed notSound (sound w c) _ (omega arith) h in
-    let b = judge-call (load w c) k _ (a .1) in
+    let a = need-passed notSound (sound w c) _ (omega arith) (sym (refusal-parts w c n k) ∙ h) in
+    let b = first-zero (callRefusals (load w c) k) _ (numbered-call (load w c) k) (a .1) in
     (b .0, need-passed noRoom (within (countsOf (effect (load w c) k)) (capacity w)) _ (omega arith) (b .1) .0)
 
 pub performed : (k : Call) (w : Words) (c : Counts) (area : List ℕ) → eqb (perform k w c area .number) accepted ≡ true → Performed k w c area

@@ -15,10 +15,10 @@ use Rattle.layout.specs.Names.{nameSize, isName, namedThenZero}
 use Rattle.layout.specs.Types.{isType}
 use Rattle.layout.specs.Words.{load, fits}
 use Rattle.layout.proofs.RoundTrip.{Named}
-use Rattle.ducklake.specs.Liveness.{live, retained, latest, isLive}
+use Rattle.ducklake.specs.Liveness.{live, retained, isLive}
 use Rattle.ducklake.specs.Soundness.{inLimit, isFlag, schemaInRange, tableInRange, columnInRange, sound}
 use Rattle.ducklake.specs.Refusals.{accepted}
-use Rattle.ducklake.specs.Readings.{files, queryAnswer, judgeQuery}
+use Rattle.ducklake.specs.Readings.{files, queryAnswer}
 use Rattle.ducklake.specs.Claim.{State, isRetained, readingOf, isListed}
 use Rattle.ducklake.proofs.facts.Facts.{Sound, reflects-sound}
 use Rattle.ducklake.proofs.commits.Moves.{below-latest}
@@ -56,8 +56,7 @@ pub record Tables (S : State) : Type 0 where
   pub tally : Tally (catalogOf S) (S .expired)
 
 pub sound-words : {S : State} → Tables S → sound (S .words) (S .counts) ≡ true
-unfolding sound
-sound-words {S} T = and (T .fit) (reflects-sound (catalogOf S) .from (T .sound))
+sound-words {S} T = reflects-sound (S .words) (S .counts) .from (T .fit, T .sound)
 
 pub retained-is : {S : State} → Tables S → (s : ℕ) → retained (catalogOf S .snapshots) s ≡ isRetained S s
 retained-is {S} T s = T .tally .is s ∙ ap (λ m. leb s m && not (has s (S .expired))) (sym (T .journal .now))
@@ -67,7 +66,7 @@ module _ (S : State) (T : Tables S) (s : ℕ) (h : retained (catalogOf S .snapsh
   in-files : (table : ℕ)
       → (eqb (readingOf (S .words) (S .counts) s (files table) .number) accepted && has k (readingOf (S .words) (S .counts) s (files table) .words))
       ≡ (isLive (catalogOf S .tables) s table && has k (queryAnswer (catalogOf S) s (files table)))
-  unfolding judgeQuery any
+  unfolding any
   in-files table =
       rw (reading-is (S .words) (S .counts) s (files table) (sound-words T) h) (if (isLive (catalogOf S .tables) s table) (λ b. rw b) (λ b. rw b))
 

@@ -14,14 +14,14 @@ use Rattle.layout.specs.Catalog.{absent, Catalog}
 use Rattle.layout.specs.Words.{Words, load, store, countsOf, capacity, within, fits}
 use Rattle.layout.proofs.RoundTrip.{load-store, fits-store}
 use Rattle.ducklake.specs.Liveness.{retained, latest, isLive}
-use Rattle.ducklake.specs.Soundness.{idsOfFiles, soundCatalog, fileIds}
+use Rattle.ducklake.specs.Soundness.{idsOfFiles, fileIds}
 use Rattle.ducklake.specs.Refusals.{accepted, idOfTable, noSuchId, need}
 use Rattle.ducklake.specs.Commits.{freshCatalog}
-use Rattle.ducklake.specs.Readings.{Query, files, rows, judgeQuery}
+use Rattle.ducklake.specs.Readings.{Query, files, rows}
 use Rattle.ducklake.specs.Calls.{hasRoom, noCounts, performFresh}
 use Rattle.ducklake.specs.Journal.{emptyJournal}
 use Rattle.ducklake.specs.Claim.{State, isRetained, readingOf, isListed, run, freshState, Holds, Claim}
-use Rattle.ducklake.proofs.facts.Facts.{Sound, reflects-sound}
+use Rattle.ducklake.proofs.facts.Facts.{Sound, reflects-ranges, reflects-rise, reflects-lives, reflects-ascend, reflects-files, reflects-nest, reflects-apart, reflects-deletes, reflects-rows, reflects-statistics, reflects-columnCounts}
 use Rattle.ducklake.proofs.commits.Good.{Chain}
 use Rattle.ducklake.proofs.cases.Sessions.{passes}
 use Rattle.ducklake.proofs.readings.Answers.{numbered, enough-room, no-room, reading-is}
@@ -33,9 +33,23 @@ use Rattle.ducklake.proofs.claim.Histories.{Inv, Later, run-inv}
 
 -- a fresh catalogue
 
-fresh-sound : (time : ℕ) → soundCatalog (freshCatalog time) ≡ true
+fresh-sound : (time : ℕ) → Sound (freshCatalog time)
 unfolding passes
-fresh-sound time = refl
+fresh-sound time =
+    let F : Catalog = freshCatalog time in
+    record {
+      ranges = reflects-ranges F .to refl;
+      rise = reflects-rise F .to refl;
+      lives = reflects-lives F .to refl;
+      ascend = reflects-ascend F .to refl;
+      files = reflects-files F .to refl;
+      nest = reflects-nest F .to refl;
+      apart = reflects-apart F .to refl;
+      deletes = reflects-deletes F .to refl;
+      rows = reflects-rows F .to refl;
+      statistics = reflects-statistics F .to refl;
+      columnCounts = reflects-columnCounts F .to refl;
+    }
 
 no-counts : (w : Words) → within noCounts (capacity w) ≡ true
 unfolding within
@@ -54,7 +68,7 @@ module _ (time : ℕ) (w : Words) (c : Counts) (area : List ℕ) (h : performFre
   F = freshCatalog time
 
   sound-F : Sound F
-  sound-F = reflects-sound F .to (fresh-sound time)
+  sound-F = fresh-sound time
 
   room : within (countsOf F) (capacity w) ≡ true
   unfolding performFresh hasRoom
@@ -137,7 +151,6 @@ module _ (S : State) (I : Inv S) where
   rows-as-journaled : (s table : ℕ) → isRetained S s ≡ true
       → readingOf (S .words) (S .counts) s (rows table)
       ≡ record { number = need (noSuchId (catalogOf S) idOfTable table) (S .journal .page s table .present) accepted; words = cond (S .journal .page s table .present) (S .journal .page s table .rows) [] }
-  unfolding judgeQuery
   rows-as-journaled s table h =
       let r = retained-is (I .tables) s ∙ h in
       let o = I .tables .journal .pages s r table in
@@ -148,7 +161,6 @@ module _ (S : State) (I : Inv S) where
 
   file-lists-as-journaled : (s table : ℕ) → isRetained S s ≡ true
       → readingOf (S .words) (S .counts) s (files table) .number ≡ need (noSuchId (catalogOf S) idOfTable table) (S .journal .page s table .present) accepted
-  unfolding judgeQuery
   file-lists-as-journaled s table h =
       let r = retained-is (I .tables) s ∙ h in
       ap (λ a. a .number) (reading-is (S .words) (S .counts) s (files table) (sound-words (I .tables)) r) ∙ rw (I .tables .journal .pages s r table .present)

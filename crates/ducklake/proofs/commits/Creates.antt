@@ -6,7 +6,7 @@ use mathlib.Core.List.{List, map}
 use mathlib.Core.Bool.{Bool, true, false, not, _&&_}
 use native.Mathlib.Omega.{arith}
 use lib.Dec.{eqb}
-use lib.ListN.{length, getD, length-map}
+use lib.ListN.{length, length-map}
 use borrow.Author.Tests.{leb-true, eq-eqb, ne-eqb}
 use Rattle.lists.specs.Lists.{range, any}
 use Rattle.lists.proofs.Tests.{and, reflects-it, reflects-and, reflects-leb, reflects-eqb}
@@ -15,13 +15,13 @@ use Rattle.lists.proofs.Selections.{filter-append, filter-none, filter-all}
 use Rattle.lists.proofs.Orders.{range-ascend}
 use Rattle.lists.proofs.Loops.{length-range}
 use Rattle.layout.specs.Catalog.{absent, Versioned, Column, Catalog}
-use Rattle.layout.specs.Names.{nameSize, nameAt, isName, isNameArgument, padded, sameName}
+use Rattle.layout.specs.Names.{nameSize, isName, isNameArgument, padded, sameName}
 use Rattle.layout.specs.Types.{isType}
 use Rattle.layout.proofs.Padding.{padded-isName}
 use Rattle.ducklake.specs.Kinds.{isKind}
 use Rattle.ducklake.specs.Liveness.{live, latest, latestId, schemasAt, tablesAt, columnsAt, isLive}
 use Rattle.ducklake.specs.Soundness.{isFlag}
-use Rattle.ducklake.specs.Arguments.{clashes, columnArguments, newColumns, columnsFit}
+use Rattle.ducklake.specs.Arguments.{clashes, columnArguments, newColumns, columnArgument, columnsWhole, columnsFit}
 use Rattle.ducklake.specs.Commits.{Change, close, born, nextSnapshot, commit, numbersFit, createSchema, createTable, changeOf}
 use Rattle.ducklake.specs.Calls.{inTime}
 use Rattle.ducklake.proofs.facts.Facts.{Sound}
@@ -41,10 +41,10 @@ record NewColumns (table : ℕ) (xs : List Column) : Type 0 where
   apart : Pairwise (λ x y. (sameName (x .name) (y .name) ≡ true → ⊥) × (x .order < y .order)) xs
 
 new-columns : (table : ℕ) (words names : List ℕ) → columnsFit table words names ≡ true → NewColumns table (newColumns table words names)
-unfolding columnsFit newColumns
+unfolding columnsWhole columnsFit newColumns
 new-columns table words names h =
     let n : ℕ = columnArguments words in
-    let column : ℕ → Column = λ i. record { table = table; order = i; typeCode = getD words (2 * i) 0; nullsAllowed = getD words (2 * i + 1) 0; name = nameAt names i } in
+    let column : ℕ → Column = columnArgument table words names in
     let xs : List Column = map column (range 0 n) in
     let e : length xs ≡ n = length-map (range 0 n) column ∙ length-range 0 n in
     let t = reflects-and (reflects-and (reflects-and (reflects-and (reflects-and (reflects-eqb (length words) (2 * n)) (reflects-eqb (length names) (nameSize * n)))

@@ -13,7 +13,7 @@ use Rattle.layout.specs.Types.{isType}
 use Rattle.ducklake.specs.Kinds.{isKind}
 use Rattle.ducklake.specs.Liveness.{latest, latestId, columnsAt}
 use Rattle.ducklake.specs.Soundness.{isFlag, isRecordCount, statisticsInRange, fileUuids, sameUuid, fileStatisticsSound}
-use Rattle.ducklake.specs.Commits.{Change, close, grow, born, nextSnapshot, commit, numbersFit}
+use Rattle.ducklake.specs.Commits.{Change, close, grow, additions, nextSnapshot, commit, numbersFit}
 use Rattle.ducklake.proofs.facts.Facts.{Passed, ByTableAndId, ByFileAndColumn, TableIn, ColumnIn, DataFileIn, DeleteFileIn, SchemasApart, TablesApart, ColumnsApart, SucceededBy, DeleteFilesApart, Positions, RowsBefore, RowsIn}
 
 -- the new snapshot's number, the records that move on, and those that are born
@@ -37,19 +37,19 @@ module _ (C : Catalog) (d : Change) where
   deleteFileNext = close nextId (d .ends .deleteFile)
 
   abbrev pub bornSchemas : List (Versioned Schema)
-  bornSchemas = born nextId (latest C .nextCatalogId) (d .added .schemas)
+  bornSchemas = additions C d .schemas
 
   abbrev pub bornTables : List (Versioned Table)
-  bornTables = born nextId (latest C .nextCatalogId + length (d .added .schemas)) (d .added .tables)
+  bornTables = additions C d .tables
 
   abbrev pub bornColumns : List (Versioned Column)
-  bornColumns = born nextId 1 (d .added .columns)
+  bornColumns = additions C d .columns
 
   abbrev pub bornDeleteFiles : List (Versioned DeleteFile)
-  bornDeleteFiles = born nextId (latest C .nextFileId) (d .added .deleteFiles)
+  bornDeleteFiles = additions C d .deleteFiles
 
   abbrev pub bornDataFiles : List (Versioned DataFile)
-  bornDataFiles = born nextId (latest C .nextFileId + length (d .added .deleteFiles)) (d .added .dataFiles)
+  bornDataFiles = additions C d .dataFiles
 
 -- the fields of new records that are in range whatever their ids
 

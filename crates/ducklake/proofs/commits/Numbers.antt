@@ -1,8 +1,9 @@
 -- The numbers of a commit: its snapshot, its limits, and the file numbers that it draws.
 use Prim.Native.Nat.{ℕ, suc, _+_, _≤_, _<_}
-use mathlib.Core.Path.{_≡_}
+use mathlib.Core.Path.{_≡_, sym, ap}
 use mathlib.Core.List.{List, [], _∷_}
 use native.Mathlib.Omega.{arith}
+use native.Mathlib.Nat.{add-assoc}
 use lib.Dec.{ltb, eqb}
 use lib.ListN.{length}
 use Rattle.lists.specs.Lists.{bit, count}
@@ -13,7 +14,7 @@ use Rattle.lists.proofs.Counts.{count-append, count-map, one-suc}
 use Rattle.layout.specs.Catalog.{absent, numberLimit, Catalog}
 use Rattle.ducklake.specs.Liveness.{noSnapshot, latest}
 use Rattle.ducklake.specs.Soundness.{idsOfFiles, snapshotInRange, fileIds}
-use Rattle.ducklake.specs.Commits.{Change, close, grow, born, commit, nextSnapshot, numbersFit}
+use Rattle.ducklake.specs.Commits.{Change, close, grow, born, additions, commit, nextSnapshot, numbersFit}
 use Rattle.ducklake.proofs.commits.Moves.{SmallSnapshot, reflects-small}
 use Rattle.ducklake.proofs.commits.Good.{nextId, Good}
 
@@ -52,5 +53,9 @@ pub commit-count : (C : Catalog) (d : Change) (k : ℕ)
 unfolding commit idsOfFiles close nextSnapshot
 commit-count C d k =
     let n = latest C .nextFileId in
-    simp (count-append, count-map)
-    (omega (arith, count-born (nextId C d) n (d .added .deleteFiles) k, count-born (nextId C d) (n + length (d .added .deleteFiles)) (d .added .dataFiles) k))
+    let a : count (λ v. eqb (v .id) k) (additions C d .deleteFiles) + bit (ltb k n) ≡ bit (ltb k (n + length (d .added .deleteFiles))) = count-born (nextId C d) n (d .added .deleteFiles) k in
+    let b : count (λ v. eqb (v .id) k) (additions C d .dataFiles) + bit (ltb k (n + length (d .added .deleteFiles))) ≡ bit (ltb k (n + length (d .added .deleteFiles) + length (d .added .dataFiles)))
+    = count-born (nextId C d) (n + length (d .added .deleteFiles)) (d .added .dataFiles) k in
+    let e : bit (ltb k (nextSnapshot C d .nextFileId)) ≡ bit (ltb k (n + length (d .added .deleteFiles) + length (d .added .dataFiles)))
+    = ap (λ m. bit (ltb k m)) (sym (add-assoc n (length (d .added .deleteFiles)) (length (d .added .dataFiles)))) in
+    simp (count-append, count-map) (omega (arith, a, b, e))

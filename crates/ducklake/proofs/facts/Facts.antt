@@ -1,24 +1,27 @@
--- What the tests of soundness tell: `soundCatalog` as a record of facts.
+-- What the tests of soundness tell, as a record of facts.
 use Prim.Native.Nat.{ℕ, _≤_, _<_}
 use mathlib.Core.Path.{_≡_, refl, ap, _∙_}
 use mathlib.Core.Logic.{_⊎_, inl, inr}
 use mathlib.Core.List.{List}
-use mathlib.Core.Bool.{Bool, true, not, _&&_, and-assoc}
+use mathlib.Core.Bool.{Bool, true, not, _&&_}
 use native.Mathlib.Omega.{arith}
 use lib.Dec.{leb, ltb, eqb}
 use lib.ListN.{length}
-use borrow.Author.Tests.{ltb-true, ltb-false, eq-eqb, ne-eqb}
+use borrow.Author.Tests.{ltb-true, ltb-false, eqb-true, eq-eqb, ne-eqb}
 use Rattle.lists.specs.Lists.{all, nonEmpty, pairwise, chained, has, bit, count, before}
-use Rattle.lists.proofs.Tests.{Reflects, if, either, both, reflects-it, reflects-as, reflects-and, reflects-or, reflects-not, reflects-implies, reflects-implies-both, reflects-implies-either, reflects-leb, reflects-ltb, reflects-eqb}
+use Rattle.lists.proofs.Tests.{Reflects, if, either, both, and, reflects-it, reflects-as, reflects-and, reflects-or, reflects-not, reflects-implies, reflects-implies-both, reflects-implies-either, reflects-leb, reflects-ltb, reflects-eqb}
 use Rattle.lists.proofs.Members.{All, each, Any, Pairwise, reflects-all, reflects-any, reflects-pairwise}
 use Rattle.lists.proofs.Orders.{reflects-chained}
 use Rattle.lists.proofs.Counts.{count-zero, count-pos, reflects-distinct, bit-le}
 use Rattle.layout.specs.declared.record.Uuid.{Uuid}
 use Rattle.layout.specs.Catalog.{absent, Versioned, Snapshot, Schema, Table, Column, DataFile, DeleteFile, Statistics, Catalog}
+use Rattle.layout.specs.declared.outcome.Counts.{Counts}
 use Rattle.layout.specs.Names.{sameName}
+use Rattle.layout.specs.Words.{Words, load, capacity, within, fits}
 use Rattle.ducklake.specs.Kinds.{isKind}
 use Rattle.ducklake.specs.Liveness.{live, liveAtSome, latest, latestId, columnsAt}
-use Rattle.ducklake.specs.Soundness.{snapshotInRange, schemaInRange, tableInRange, columnInRange, dataFileInRange, deleteFileInRange, statisticsInRange, scheduledInRange, fieldsInRange, follows, snapshotsRise, lifeSound, livesSound, byId, byTableAndId, byFileAndColumn, idsAscend, fileIds, fileUuids, sameUuid, idsBelowNext, filesDistinct, holds, sameLife, tableNests, columnNests, dataFileNests, deleteFileNests, livesNest, overlap, schemasApart, tablesApart, columnsApart, namesApart, succeededBy, deleteFilesApart, positionsSound, deletesSound, rowIdEnd, rowsBefore, rowsInTable, rowRangesSound, fileStatisticsSound, statisticsOnFile, statisticsSound, columnCountSound, columnCountsSound, soundCatalog}
+use Rattle.ducklake.specs.Soundness.{snapshotInRange, schemaInRange, tableInRange, columnInRange, dataFileInRange, deleteFileInRange, statisticsInRange, scheduledInRange, fieldsInRange, follows, snapshotsRise, lifeSound, livesSound, byId, byTableAndId, byFileAndColumn, idsAscend, fileIds, fileUuids, sameUuid, idsBelowNext, filesDistinct, holds, sameLife, tableNests, columnNests, dataFileNests, deleteFileNests, livesNest, overlap, schemasApart, tablesApart, columnsApart, namesApart, succeededBy, deleteFilesApart, positionsSound, deletesSound, rowIdEnd, rowsBefore, rowsInTable, rowRangesSound, fileStatisticsSound, statisticsOnFile, statisticsSound, columnCountSound, columnCountsSound, soundLines, positionsAddUp, firstUnsound, sound}
+use Rattle.ducklake.proofs.facts.Needs.{AllPassed, first-passed}
 
 -- a test that is passed
 abbrev pub Passed : {A : Type 0} → (A → Bool) → A → Type 0
@@ -45,7 +48,7 @@ pub record Ranges (C : Catalog) : Type 0 where
   pub statistics : All (Passed statisticsInRange) (C .statistics)
   pub scheduled : All (Passed scheduledInRange) (C .scheduled)
 
-reflects-ranges : (C : Catalog) → Reflects (fieldsInRange C) (Ranges C)
+pub reflects-ranges : (C : Catalog) → Reflects (fieldsInRange C) (Ranges C)
 unfolding fieldsInRange
 reflects-ranges C =
     reflects-as
@@ -95,7 +98,7 @@ pub record Rise (C : Catalog) : Type 0 where
   pub ascend : Pairwise Follows (C .snapshots)
   pub kinds : All (λ n. (isKind (n .kind) ≡ true) × (n .object < latest C .nextCatalogId)) (C .snapshots)
 
-reflects-rise : (C : Catalog) → Reflects (snapshotsRise (C .snapshots)) (Rise C)
+pub reflects-rise : (C : Catalog) → Reflects (snapshotsRise (C .snapshots)) (Rise C)
 unfolding snapshotsRise
 reflects-rise C =
     reflects-as
@@ -127,7 +130,7 @@ pub record Lives (C : Catalog) : Type 0 where
   pub dataFiles : All (Life C) (C .dataFiles)
   pub deleteFiles : All (Life C) (C .deleteFiles)
 
-reflects-lives : (C : Catalog) → Reflects (livesSound C) (Lives C)
+pub reflects-lives : (C : Catalog) → Reflects (livesSound C) (Lives C)
 unfolding livesSound
 reflects-lives C =
     reflects-as
@@ -170,7 +173,7 @@ pub record Ascend (C : Catalog) : Type 0 where
 reflects-ids : {A : Type 0} (vs : List (Versioned A)) → Reflects (chained byId vs) (Pairwise ById vs)
 reflects-ids vs = reflects-chained (λ v w. reflects-ltb (v .id) (w .id)) (λ a b c p q. omega (arith, p, q)) vs
 
-reflects-ascend : (C : Catalog) → Reflects (idsAscend C) (Ascend C)
+pub reflects-ascend : (C : Catalog) → Reflects (idsAscend C) (Ascend C)
 unfolding idsAscend byTableAndId byFileAndColumn
 reflects-ascend C =
     reflects-as
@@ -216,7 +219,7 @@ below-and-once n ks =
       λ k. let c = h k in let d : bit (ltb k n) ≤ 1 = bit-le (ltb k n) in omega arith,
     ))
 
-reflects-files : (C : Catalog) → Reflects (idsBelowNext C && filesDistinct C) (Files C)
+pub reflects-files : (C : Catalog) → Reflects (idsBelowNext C && filesDistinct C) (Files C)
 unfolding idsBelowNext filesDistinct
 reflects-files C =
     record {
@@ -289,7 +292,7 @@ pub record Nest (C : Catalog) : Type 0 where
   pub dataFiles : All (λ f. Any (DataFileIn f) (C .tables)) (C .dataFiles)
   pub deleteFiles : All (λ d. Any (DeleteFileIn d) (C .dataFiles)) (C .deleteFiles)
 
-reflects-nest : (C : Catalog) → Reflects (livesNest C) (Nest C)
+pub reflects-nest : (C : Catalog) → Reflects (livesNest C) (Nest C)
 unfolding livesNest tableNests columnNests dataFileNests deleteFileNests
 reflects-nest C =
     reflects-as
@@ -343,7 +346,7 @@ pub record Apart (C : Catalog) : Type 0 where
   pub tables : Pairwise TablesApart (C .tables)
   pub columns : Pairwise ColumnsApart (C .columns)
 
-reflects-apart : (C : Catalog) → Reflects (namesApart C) (Apart C)
+pub reflects-apart : (C : Catalog) → Reflects (namesApart C) (Apart C)
 unfolding namesApart schemasApart tablesApart columnsApart
 reflects-apart C =
     reflects-as
@@ -405,7 +408,7 @@ pub record Deletes (C : Catalog) : Type 0 where
   pub apart : Pairwise DeleteFilesApart (C .deleteFiles)
   pub positions : All (Positions C) (C .deleteFiles)
 
-reflects-deletes : (C : Catalog) → Reflects (deletesSound C) (Deletes C)
+pub reflects-deletes : (C : Catalog) → Reflects (deletesSound C) (Deletes C)
 unfolding deletesSound deleteFilesApart
 reflects-deletes C =
     reflects-as
@@ -428,7 +431,7 @@ pub record Rows (C : Catalog) : Type 0 where
   pub before : Pairwise RowsBefore (C .dataFiles)
   pub within : All (λ f. Any (RowsIn f) (C .tables)) (C .dataFiles)
 
-reflects-rows : (C : Catalog) → Reflects (rowRangesSound C) (Rows C)
+pub reflects-rows : (C : Catalog) → Reflects (rowRangesSound C) (Rows C)
 unfolding rowRangesSound rowsBefore rowsInTable
 reflects-rows C =
     reflects-as
@@ -448,7 +451,7 @@ pub record FileStatistics (C : Catalog) : Type 0 where
   pub each : All (Passed (fileStatisticsSound (C .columns) (C .statistics))) (C .dataFiles)
   pub onFile : All (λ x. Any (λ f. f .id ≡ x .dataFile) (C .dataFiles)) (C .statistics)
 
-reflects-statistics : (C : Catalog) → Reflects (statisticsSound C) (FileStatistics C)
+pub reflects-statistics : (C : Catalog) → Reflects (statisticsSound C) (FileStatistics C)
 unfolding statisticsSound statisticsOnFile
 reflects-statistics C =
     reflects-as
@@ -463,7 +466,7 @@ pub record ColumnCount (C : Catalog) (s : ℕ) (t : Versioned Table) : Type 0 wh
 abbrev pub ColumnCounts : Catalog → Type 0
 ColumnCounts C = All (λ n. All (ColumnCount C (n .id)) (C .tables)) (C .snapshots)
 
-reflects-columnCounts : (C : Catalog) → Reflects (columnCountsSound C) (ColumnCounts C)
+pub reflects-columnCounts : (C : Catalog) → Reflects (columnCountsSound C) (ColumnCounts C)
 unfolding columnCountsSound columnCountSound
 reflects-columnCounts C =
     reflects-all (λ n. reflects-all (λ t.
@@ -488,25 +491,52 @@ pub record Sound (C : Catalog) : Type 0 where
   pub statistics : FileStatistics C
   pub columnCounts : ColumnCounts C
 
-pub reflects-sound : (C : Catalog) → Reflects (soundCatalog C) (Sound C)
-unfolding soundCatalog
-reflects-sound C =
-    rw (and-assoc (fieldsInRange C && snapshotsRise (C .snapshots) && livesSound C && idsAscend C) (idsBelowNext C) (filesDistinct C))
-    (reflects-as
-    (reflects-and (reflects-and (reflects-and (reflects-and (reflects-and (reflects-and (reflects-and (reflects-and (reflects-and (reflects-and
-    (reflects-ranges C) (reflects-rise C)) (reflects-lives C)) (reflects-ascend C)) (reflects-files C)) (reflects-nest C)) (reflects-apart C))
-    (reflects-deletes C)) (reflects-rows C)) (reflects-statistics C)) (reflects-columnCounts C))
-    (λ h. record {
-      ranges = h .0 .0 .0 .0 .0 .0 .0 .0 .0 .0;
-      rise = h .0 .0 .0 .0 .0 .0 .0 .0 .0 .1;
-      lives = h .0 .0 .0 .0 .0 .0 .0 .0 .1;
-      ascend = h .0 .0 .0 .0 .0 .0 .0 .1;
-      files = h .0 .0 .0 .0 .0 .0 .1;
-      nest = h .0 .0 .0 .0 .0 .1;
-      apart = h .0 .0 .0 .0 .1;
-      deletes = h .0 .0 .0 .1;
-      rows = h .0 .0 .1;
-      statistics = h .0 .1;
-      columnCounts = h .1;
-    })
-    (λ h. ((((((((((h .ranges, h .rise), h .lives), h .ascend), h .files), h .nest), h .apart), h .deletes), h .rows), h .statistics), h .columnCounts)))
+-- the lines of sound tables, by their numbers
+pub sound-lines : (w : Words) (c : Counts) → sound w c ≡ true → AllPassed (soundLines w c)
+unfolding sound firstUnsound
+sound-lines w c h = first-passed (soundLines w c) (omega arith) (eqb-true _ 0 h)
+
+-- tables are sound just where their counts fit and their catalog has all that a line says
+pub reflects-sound : (w : Words) (c : Counts) → Reflects (sound w c) ((fits w c ≡ true) × Sound (load w c))
+unfolding sound firstUnsound fits
+reflects-sound w c =
+    let C : Catalog = load w c in
+    record {
+      to = λ h.
+          let p : AllPassed (soundLines w c) = sound-lines w c h in
+          let a = both (within c (capacity w)) (fieldsInRange C) (p 1) in
+          let b = both (positionsAddUp w c) (deletesSound C) (p 8) in (
+            and (a .0) (b .0),
+            record {
+              ranges = reflects-ranges C .to (a .1);
+              rise = reflects-rise C .to (p 2);
+              lives = reflects-lives C .to (p 3);
+              ascend = reflects-ascend C .to (p 4);
+              files = reflects-files C .to (p 5);
+              nest = reflects-nest C .to (p 6);
+              apart = reflects-apart C .to (p 7);
+              deletes = reflects-deletes C .to (b .1);
+              rows = reflects-rows C .to (p 9);
+              statistics = reflects-statistics C .to (p 10);
+              columnCounts = reflects-columnCounts C .to (p 11);
+            },
+          );
+      from = λ h.
+          let f = both (within c (capacity w)) (positionsAddUp w c) (h .0) in
+          let S : Sound C = h .1 in
+          rw (
+            f .0,
+            f .1,
+            reflects-ranges C .from (S .ranges),
+            reflects-rise C .from (S .rise),
+            reflects-lives C .from (S .lives),
+            reflects-ascend C .from (S .ascend),
+            reflects-files C .from (S .files),
+            reflects-nest C .from (S .nest),
+            reflects-apart C .from (S .apart),
+            reflects-deletes C .from (S .deletes),
+            reflects-rows C .from (S .rows),
+            reflects-statistics C .from (S .statistics),
+            reflects-columnCounts C .from (S .columnCounts),
+          ) refl;
+    }

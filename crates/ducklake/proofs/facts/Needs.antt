@@ -1,11 +1,57 @@
--- Tests in a row.
+-- Refusals in a row: what the first that fails comes to.
 use Prim.Native.Nat.{ℕ, _≤_}
-use mathlib.Core.Path.{_≡_, refl}
-use mathlib.Core.Bool.{Bool, true, false}
+use mathlib.Core.Path.{_≡_, refl, ap}
+use mathlib.Core.Bool.{Bool, true, false, cond}
+use mathlib.Core.List.{List, [], _∷_, _++_}
 use native.Mathlib.Omega.{arith}
-use Rattle.ducklake.specs.Refusals.{need}
+use lib.Dec.{eqb}
+use borrow.Author.Tests.{ne-eqb}
+use Rattle.lists.specs.Lists.{all}
+use Rattle.lists.proofs.Tests.{if}
+use Rattle.ducklake.specs.Refusals.{need, first}
 
 -- a test before the rest comes to 0 just where it is passed and the rest is 0
 pub need-passed : (n : ℕ) (b : Bool) (rest : ℕ) → 1 ≤ n → need n b rest ≡ 0 → (b ≡ true) × (rest ≡ 0)
 need-passed n true rest l h = (refl, h)
 need-passed n false rest l h = absurd (omega arith)
+
+-- no number is below this one
+abbrev pub NumberedFrom : ℕ → List (ℕ × Bool) → Type 0
+NumberedFrom least [] = Unit {0}
+NumberedFrom least (t ∷ ts) = (least ≤ t .0) × NumberedFrom least ts
+
+pub numbered-append : (least : ℕ) (ts us : List (ℕ × Bool)) → NumberedFrom least ts → NumberedFrom least us → NumberedFrom least (ts ++ us)
+numbered-append least [] us n m = m
+numbered-append least (t ∷ ts) us n m = (n .0, numbered-append least ts us (n .1) m)
+
+pub first-append : (ts us : List (ℕ × Bool)) (rest : ℕ) → first (ts ++ us) rest ≡ first ts (first us rest)
+first-append [] us rest = refl
+first-append (t ∷ ts) us rest = ap (need (t .0) (t .1)) (first-append ts us rest)
+
+-- refusals come to 0 just where each test is passed and the rest is 0
+pub first-zero : (ts : List (ℕ × Bool)) (rest : ℕ) → NumberedFrom 1 ts → first ts rest ≡ 0 → (first ts 0 ≡ 0) × (rest ≡ 0)
+first-zero [] rest n h = (refl, h)
+first-zero (t ∷ ts) rest n h =
+    let z = need-passed (t .0) (t .1) (first ts rest) (n .0) h in
+    let r = first-zero ts rest (n .1) (z .1) in
+    (rw (z .0) (r .0), r .1)
+
+pub first-all : (ts : List (ℕ × Bool)) → NumberedFrom 1 ts → eqb (first ts 0) 0 ≡ all (λ t. t .1) ts
+unfolding all
+first-all [] n = refl
+first-all (t ∷ ts) n = if (t .1) (λ e. rw e (first-all ts (n .1))) (λ e. rw e (ne-eqb (t .0) 0 (λ (z : t .0 ≡ 0). omega (arith, n .0, z))))
+
+-- what must hold for a number
+abbrev pub testOf : List (ℕ × Bool) → ℕ → Bool
+testOf [] number = true
+testOf (t ∷ ts) number = cond (eqb (t .0) number) (t .1) (testOf ts number)
+
+-- each test is passed
+abbrev pub AllPassed : List (ℕ × Bool) → Type 0
+AllPassed ts = (number : ℕ) → testOf ts number ≡ true
+
+pub first-passed : (ts : List (ℕ × Bool)) → NumberedFrom 1 ts → first ts 0 ≡ 0 → AllPassed ts
+first-passed [] n h number = refl
+first-passed (t ∷ ts) n h number =
+    let z = need-passed (t .0) (t .1) (first ts 0) (n .0) h in
+    if (eqb (t .0) number) (λ e. rw e (z .0)) (λ e. rw e (first-passed ts (n .1) (z .1) number))

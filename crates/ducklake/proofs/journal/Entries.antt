@@ -15,6 +15,7 @@ use Rattle.lists.proofs.Members.{In, All, each, in-any, all-append, all-map}
 use Rattle.layout.specs.Catalog.{absent, Versioned, Table, DataFile, DeleteFile, Catalog}
 use Rattle.ducklake.specs.Liveness.{live, retained, latest, latestId, dataFilesAt, deleteFilesAt, deletedAt, isLive}
 use Rattle.ducklake.specs.Commits.{Change, close, grow, nextSnapshot, commit}
+use Rattle.ducklake.specs.Refusals.{first}
 use Rattle.ducklake.specs.Readings.{rows, fileRows, queryAnswer}
 use Rattle.ducklake.specs.Journal.{TableRows, noTableRows, Journal, updated, lastPage, turned}
 use Rattle.ducklake.proofs.facts.Facts.{Sound}

@@ -10,18 +10,19 @@ use Rattle.lists.specs.Lists.{range, all, nonEmpty, chained, filter, has, sortB
 use Rattle.lists.proofs.Tests.{reflects-ltb, if, both}
 use Rattle.lists.proofs.Selections.{flatMap-filter}
 use Rattle.lists.proofs.Members.{In, here, All, each, all-nil, all-one, all-filter, reflects-all}
+use Rattle.layout.specs.declared.outcome.Terms.{Terms}
 use Rattle.layout.specs.declared.record.Uuid.{Uuid}
 use Rattle.layout.specs.Catalog.{Versioned, Snapshot, DataFile, Catalog}
 use Rattle.ducklake.specs.Liveness.{liveAtSome, retained, latest, dataFilesAt, deletedAt, latestId, isLive, tableOfId, dataFileOfId}
-use Rattle.ducklake.specs.Refusals.{badPositions, idOfTable, idOfFile, noSuchId, timeFalls, uuidTaken}
+use Rattle.ducklake.specs.Refusals.{notLive, badPositions, first}
 use Rattle.ducklake.specs.Arguments.{positionsFit}
 use Rattle.ducklake.specs.Commits.{Change, Commit, createSchema, createTable, insert, delete, dropTable, dropSchema, nextSnapshot, changeOf, commit, numbersFit}
 use Rattle.ducklake.specs.Readings.{rows, fileRows, queryAnswer}
 use Rattle.ducklake.specs.Maintenance.{expire, cleanup}
-use Rattle.ducklake.specs.Calls.{inTime, uuidFree, judgeCommit}
+use Rattle.ducklake.specs.Calls.{refusals}
 use Rattle.ducklake.specs.Journal.{TableRows, noTableRows, Journal, updated, lastPage, journaled}
 use Rattle.ducklake.proofs.facts.Facts.{Sound}
-use Rattle.ducklake.proofs.facts.Needs.{need-passed}
+use Rattle.ducklake.proofs.facts.Needs.{AllPassed}
 use Rattle.ducklake.proofs.facts.Below.{dataFile-below}
 use Rattle.ducklake.proofs.commits.Good.{nextId, Good, Chain}
 use Rattle.ducklake.proofs.readings.Frames.{expire-tableLive, expire-answer, cleanup-answer}
@@ -156,25 +157,21 @@ module _ (C : Catalog) (S : Sound C) (time : ℕ) (J : Journal) (O : JournalOk C
           newDeleteFiles = all-one (λ f m q e. g (sym e ∙ (ap (λ v. v .body .table) (named-file f m (sym q)) ∙ sym table-of)));
         })
 
--- a test of a chain that comes to 0 is passed
-pub commit-journal : (C : Catalog) → Sound C → Chain C → (time : ℕ) (k : Commit) → judgeCommit C time k 0 ≡ 0 → numbersFit C (changeOf C time k) ≡ true
-    → (J : Journal) → JournalOk C J → JournalOk (commit C (changeOf C time k)) (journaled J k)
-unfolding judgeCommit positionsFit
-commit-journal C S H time (createSchema name) h n J O = create-schema C S time J O name (change-good C S H time (createSchema name) h n)
-commit-journal C S H time (createTable schema name columns names) h n J O =
-    create-table C S time J O schema name columns names (change-good C S H time (createTable schema name columns names) h n)
-commit-journal C S H time (insert k m uuid statistics) h n J O =
-    insert-rows C S time J O k m uuid statistics (need-passed (noSuchId C idOfTable k) (isLive (C .tables) (latestId C) k) _ (omega arith) h .0) (change-good C S H time (insert k m uuid statistics) h n)
-commit-journal C S H time (delete k uuid ps) h n J O =
-    let l = need-passed (noSuchId C idOfFile k) (isLive (C .dataFiles) (latestId C) k) _ (omega arith) h in
-    let t = need-passed timeFalls (inTime C time) _ (omega arith) (l .1) in
-    let u = need-passed uuidTaken (uuidFree C uuid) _ (omega arith) (t .1) in
-    let r : ℕ = dataFileOfId (C .dataFiles) k .body .recordCount in
-    let p = need-passed badPositions (positionsFit r ps) _ (omega arith) (u .1) in
-    let f = both (nonEmpty ps && chained ltb ps) (all (λ p. ltb p r) ps) (p .0) in
-    delete-rows C S time J O k uuid ps (l .0) (reflects-all (λ p. reflects-ltb p r) ps .to (f .1)) (change-good C S H time (delete k uuid ps) h n)
-commit-journal C S H time (dropTable k) h n J O = drop-table C S time J O k (change-good C S H time (dropTable k) h n)
-commit-journal C S H time (dropSchema k) h n J O = drop-schema C S time J O k (change-good C S H time (dropSchema k) h n)
+pub commit-journal : (C : Catalog) → Sound C → Chain C → (terms : Terms) (k : Commit) → AllPassed (refusals C terms k) → numbersFit C (changeOf C (terms .time) k) ≡ true
+    → (J : Journal) → JournalOk C J → JournalOk (commit C (changeOf C (terms .time) k)) (journaled J k)
+unfolding positionsFit
+commit-journal C S H terms k h n J O = written k h (change-good C S H terms k h n)
+  where
+    written : (k : Commit) → AllPassed (refusals C terms k) → Good C (changeOf C (terms .time) k) → JournalOk (commit C (changeOf C (terms .time) k)) (journaled J k)
+    written (createSchema name) h g = create-schema C S (terms .time) J O name g
+    written (createTable schema name columns names) h g = create-table C S (terms .time) J O schema name columns names g
+    written (insert k m uuid statistics) h g = insert-rows C S (terms .time) J O k m uuid statistics (h notLive) g
+    written (delete k uuid ps) h g =
+        let r : ℕ = dataFileOfId (C .dataFiles) k .body .recordCount in
+        let f = both (nonEmpty ps && chained ltb ps) (all (λ p. ltb p r) ps) (h badPositions) in
+        delete-rows C S (terms .time) J O k uuid ps (h notLive) (reflects-all (λ p. reflects-ltb p r) ps .to (f .1)) g
+    written (dropTable k) h g = drop-table C S (terms .time) J O k g
+    written (dropSchema k) h g = drop-schema C S (terms .time) J O k g
 
 pub expire-journal : (C : Catalog) → Sound C → (ids : List ℕ) (time : ℕ) → not (has (latestId C) ids) ≡ true → (J : Journal) → JournalOk C J → JournalOk (expire C ids time) J
 unfolding expire

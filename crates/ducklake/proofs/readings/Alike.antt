@@ -14,7 +14,8 @@ use Rattle.lists.proofs.Orders.{map-sort}
 use Rattle.layout.specs.Names.{padded, sameName}
 use Rattle.layout.specs.Catalog.{Versioned, DataFile, Catalog}
 use Rattle.ducklake.specs.Liveness.{live, schemasAt, tablesAt, columnsAt, dataFilesAt, deleteFilesAt, deletedAt, isLive, columnLive}
-use Rattle.ducklake.specs.Readings.{Query, schemas, tables, columns, tableNamed, files, filteredFiles, rows, tablesNamed, listed, kept, fileRows, queryAnswer, judgeQuery}
+use Rattle.ducklake.specs.Refusals.{first}
+use Rattle.ducklake.specs.Readings.{Query, schemas, tables, columns, tableNamed, files, filteredFiles, rows, tablesNamed, listed, kept, fileRows, queryAnswer, queryRefusals}
 
 -- the records live at s move on, each with its id and with what is seen of its body
 pub record Carried {A B : Type 0} (seen : A → B) (s : ℕ) (xs ys : List (Versioned A)) : Type 0 where
@@ -98,8 +99,7 @@ module _ {s : ℕ} {C D : Catalog} (a : Alike s C D) where
   unfolding columnLive
   same-columnLive k i = ap (any (λ v. eqb (v .id) i)) (same-columns k) ∙ test-moved (a .columns) i (columnsAt (C .columns) s k)
 
-  pub same-judge : (q : Query) (rest : ℕ) → judgeQuery D s q rest ≡ judgeQuery C s q rest
-  unfolding judgeQuery
+  pub same-judge : (q : Query) (rest : ℕ) → first (queryRefusals D s q) rest ≡ first (queryRefusals C s q) rest
   same-judge schemas rest = refl
   same-judge (tables k) rest = rw (same-schemaLive k)
   same-judge (columns k) rest = rw (same-tableLive k)

@@ -15,7 +15,8 @@ use Rattle.lists.proofs.Selections.{filter-filter, filter-step, any-append, any
 use Rattle.layout.specs.Catalog.{absent, Versioned, DataFile, Statistics, Catalog}
 use Rattle.ducklake.specs.Liveness.{live, liveAtSome, retained, latest, latestId, columnsAt, isLive}
 use Rattle.ducklake.specs.Commits.{Change, close, grow, born, commit}
-use Rattle.ducklake.specs.Readings.{Query, admits, kept, queryAnswer, judgeQuery}
+use Rattle.ducklake.specs.Refusals.{first}
+use Rattle.ducklake.specs.Readings.{Query, admits, kept, queryAnswer, queryRefusals}
 use Rattle.ducklake.specs.Maintenance.{expire, cleanup}
 use Rattle.ducklake.proofs.facts.Facts.{Sound}
 use Rattle.ducklake.proofs.facts.Below.{dataFile-below}
@@ -56,7 +57,7 @@ module _ (C : Catalog) (d : Change) (s : ℕ) (old : s ≤ latestId C) (small : 
   pub commit-tableLive : (k : ℕ) → isLive (commit C d .tables) s k ≡ isLive (C .tables) s k
   commit-tableLive k = same-tableLive commit-alike k
 
-  pub commit-judge : (q : Query) (rest : ℕ) → judgeQuery (commit C d) s q rest ≡ judgeQuery C s q rest
+  pub commit-judge : (q : Query) (rest : ℕ) → first (queryRefusals (commit C d) s q) rest ≡ first (queryRefusals C s q) rest
   commit-judge q rest = same-judge commit-alike q rest
 
   -- new statistics are not of files already registered
@@ -99,7 +100,7 @@ module _ (C : Catalog) (ids : List ℕ) (time s : ℕ) (stays : retained (expire
   pub expire-tableLive : (k : ℕ) → isLive (expire C ids time .tables) s k ≡ isLive (C .tables) s k
   expire-tableLive k = same-tableLive expire-alike k
 
-  pub expire-judge : (q : Query) (rest : ℕ) → judgeQuery (expire C ids time) s q rest ≡ judgeQuery C s q rest
+  pub expire-judge : (q : Query) (rest : ℕ) → first (queryRefusals (expire C ids time) s q) rest ≡ first (queryRefusals C s q) rest
   expire-judge q rest = same-judge expire-alike q rest
 
   -- the statistics of a file that is live there stay
@@ -131,7 +132,7 @@ cleanup-alike C t s = record {
   deleteFiles = carried-same (λ x. x) refl;
 }
 
-pub cleanup-judge : (C : Catalog) (t s : ℕ) (q : Query) (rest : ℕ) → judgeQuery (cleanup C t) s q rest ≡ judgeQuery C s q rest
+pub cleanup-judge : (C : Catalog) (t s : ℕ) (q : Query) (rest : ℕ) → first (queryRefusals (cleanup C t) s q) rest ≡ first (queryRefusals C s q) rest
 cleanup-judge C t s q rest = same-judge (cleanup-alike C t s) q rest
 
 pub cleanup-answer : (C : Catalog) (t s : ℕ) (q : Query) → queryAnswer (cleanup C t) s q ≡ queryAnswer C s q

@@ -1,6 +1,6 @@
 -- `remaining_ids` meets its contract: each turn writes the id of its snapshot, if it is not listed, behind those written before.
 use borrow.Author.Needs.{needs}
-use Prim.Native.Nat.{_≤_, _*_, _-_}
+use Prim.Native.Nat.{_≤_, _-_}
 use mathlib.Core.Path.{_≡_, refl, sym, ap, _∙_}
 use mathlib.Core.Bool.{not}
 use mathlib.Core.List.{List, map}

@@ -1,28 +1,20 @@
--- The part that was found holds the words of the record.
+-- `copy_file` keeps the promise: refused as the lookup is, or the words of the part that was found, or 3.
 use borrow.Author.Needs.{needs}
-use mathlib.Core.Path.{ap, _∙_}
-use native.Mathlib.Omega.{arith}
-use lib.ListN.{length}
-use Rattle.lists.specs.Runs.{overwrite}
-use Rattle.file_lookup.specs.Runs.{placeIn}
-use Rattle.file_lookup.proofs.Places.{lies-words}
+use Rattle.file_lookup.proofs.Places.{copy-refused, copy-answered}
 use Rattle.file_lookup.proofs.copy.copy_file.Statement.{statement}
 use Rattle.file_lookup.proofs.copy.copy_file.Tie as tie
 
-copy-part-requires : tie.Need-copy-part-requires
-copy-part-requires c κs =
-    let a = c .before .before .before .before .before .before .args in
-    let p = c .before .before .before .before .before .before .pre in
-    omega (arith, p .1, ap length (lies-words (a .data-files) (a .delete-files) (c .before .find-file .result) (placeIn (a .data-files .now) (a .n) (a .delete-files .now) (a .m) (a .id .0)) (c .before .find-file .ensures .0)))
-
 returns : tie.Need-returns
-returns c =
-    let a = c .before .before .before .before .before .before .before .before .before .args in
-    let f = c .before .before .before .before in
-    let e = lies-words (a .data-files) (a .delete-files) (f .find-file .result) (placeIn (a .data-files .now) (a .n) (a .delete-files .now) (a .m) (a .id .0)) (f .find-file .ensures .0) in
-    (ap length e, c .before .before .copy-part .ensures ∙ ap (overwrite (a .area .now) 0) e)
+returns c l =
+    let find : tie.After-find-file = search in
+    copy-refused _ _ _ _ _ _ (l .dataFiles) (l .deleteFiles) (find .find-file .ensures l) _ (c .if1 .taken)
+
+returns-2 : tie.Need-returns-2
+returns-2 c l =
+    let find : tie.After-find-file = search in
+    let passed : tie.Else1 = search in
+    let copy : tie.After-copy-part = search in
+    copy-answered _ _ _ _ _ _ (l .dataFiles) (l .deleteFiles) (find .find-file .ensures l) _ (passed .if1 .left) (copy .copy-part .ensures)
 
 pub copy-file-spec : {M : Type 1} → statement M
-copy-file-spec =
-    tie.close
-    (tie.spec (λ c κs. search needs) copy-part-requires (λ c. search needs) returns)
+copy-file-spec = tie.close (tie.spec (λ c κs. let start : tie.Start = search in start .pre) returns (λ c κs. search needs) (λ c. search needs) returns-2)

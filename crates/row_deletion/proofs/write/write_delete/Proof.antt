@@ -2,46 +2,63 @@
 use borrow.Author.Needs.{needs}
 use mathlib.Core.Path.{refl}
 use native.Mathlib.Omega.{arith}
-use Rattle.row_deletion.proofs.Effects.{positions-room, positions-merge, delete-stored}
+use Rattle.row_deletion.proofs.Effects.{positions-held, positions-room, positions-merge, delete-stored}
 use Rattle.row_deletion.proofs.write.write_delete.Statement.{statement}
 use Rattle.row_deletion.proofs.write.write_delete.Tie as tie
 
+-- places further back than a search goes
+abbrev looked : tie.After-append-snapshot → tie.After-deleted-part
+looked c = search
+
+abbrev begun : tie.After-deleted-part → tie.Start
+begun c = search
+
 add-count : tie.Need-add-count
 add-count c =
-    let d = c .before in
-    let l = d .before .before .before .before .before in
-    let b = l .before .before .before .before .before .before .before in
-    omega (arith, b .good .1 .1 .1 .0, positions-room (b .pre) (l .latest-snapshot .ensures) (d .deleted-part .ensures))
+    let deleted : tie.After-deleted-part = search in
+    let latest : tie.After-latest-snapshot = search in
+    let start = begun deleted in
+    omega (arith, start .good .1 .1 .1 .0, positions-room (start .pre) (latest .latest-snapshot .ensures) (deleted .deleted-part .ensures))
 
 append-snapshot-requires : tie.Need-append-snapshot-requires
-append-snapshot-requires c κs = c .before .before .before .before .before .before .before .before .before .before .before .before .before .before .pre .snapshots
+append-snapshot-requires c κs =
+    let deleted : tie.After-deleted-part = search in
+    begun deleted .pre .snapshots
 
 end-delete-file-requires : tie.Need-end-delete-file-requires
 end-delete-file-requires c κs =
-    omega (arith, c .before .before .before .before .before .before .before .before .before .before .before .before .before .before .before .before .before .before .pre .deletes .within .lent)
+    let appended : tie.After-append-snapshot = search in
+    omega (arith, begun (looked appended) .pre .deletes .within .lent)
 
 append-delete-file-requires : tie.Need-append-delete-file-requires
 append-delete-file-requires c κs =
-    let e = c .before .before .before in
-    omega (arith, e .end-delete-file .kept .0, e .before .before .before .before .before .before .before .before .before .before .before .before .before .before .before .before .before .before .before .pre .deleteFileRoom)
+    let ended : tie.After-end-delete-file = search in
+    let appended : tie.After-append-snapshot = search in
+    omega (arith, ended .end-delete-file .kept .0, begun (looked appended) .pre .deleteFiles)
 
 merge-positions-requires : tie.Need-merge-positions-requires
 merge-positions-requires c κs =
-    let d = c .before .before .before .before .before .before .before .before .before .before .before .before .before .before in
-    let l = d .before .before .before .before .before in
-    positions-merge (l .before .before .before .before .before .before .before .pre) (l .latest-snapshot .ensures) (d .deleted-part .ensures)
+    let appended : tie.After-append-snapshot = search in
+    let deleted = looked appended in
+    let latest : tie.After-latest-snapshot = search in
+    positions-merge (begun deleted .pre) (latest .latest-snapshot .ensures) (deleted .deleted-part .ensures)
 
 returns : tie.Need-returns
-returns c w h p q r s =
-    let m = c .before .before in
-    let n = m .before .before .before .before in
-    let e = n .before .before .before .before in
-    let x = e .before .before .before .before in
-    let d = x .before .before .before in
-    let f = d .before .before .before in
-    let l = f .before .before in
-    delete-stored w _ h _ _ _ _ p q r s (l .latest-snapshot .ensures) (f .data-file-of-id .ensures) (l .before .before .before .before .before .before .before .pre .deletes)
-    (d .deleted-part .ensures) refl (x .append-snapshot .ensures) (e .end-delete-file .ensures) (n .append-delete-file .ensures) (m .merge-positions .ensures)
+returns c =
+    let merged : tie.After-merge-positions = search in
+    let written : tie.After-append-delete-file = search in
+    let ended : tie.After-end-delete-file = search in
+    let appended : tie.After-append-snapshot = search in
+    let deleted = looked appended in
+    let file : tie.After-data-file-of-id = search in
+    let latest : tie.After-latest-snapshot = search in
+    let e = latest .latest-snapshot .ensures in
+    let room = begun deleted .pre in
+    let part = deleted .deleted-part .ensures in (
+      positions-held room e part,
+      λ w h p q r s. delete-stored w _ h _ _ _ _ p q r s e (file .data-file-of-id .ensures) (room .deletes) part refl (appended .append-snapshot .ensures)
+          (ended .end-delete-file .ensures) (written .append-delete-file .ensures) (merged .merge-positions .ensures),
+    )
 
 pub write-delete-spec : {M : Type 1} → statement M
 write-delete-spec =

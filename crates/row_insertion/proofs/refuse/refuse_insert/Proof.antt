@@ -1,57 +1,90 @@
--- `refuse_insert` meets its contract: each way out is one of the definition's, by the laws of refusals.
+-- `refuse_insert` meets its contract: its tests, folded in the definition's order.
 use borrow.Author.Needs.{needs}
-use mathlib.Core.Path.{refl, sym, ap, _∙_}
-use native.Mathlib.Omega.{arith}
-use Rattle.lists.proofs.Tests.{passed, failed}
-use Rattle.ducklake.specs.Calls.{answer}
-use Rattle.call_laws.specs.Writes.{addCounts}
-use Rattle.call_laws.proofs.Commits.{room-after}
+use mathlib.Core.Path.{ap, _∙_}
+use borrow.Author.Tests.{not-false}
+use Rattle.ducklake.specs.Soundness.{snapshotInRange}
 use Rattle.call_laws.proofs.CommitCounts.{insert-adds}
-use Rattle.call_laws.proofs.Ready.{ready}
-use Rattle.call_laws.proofs.Refusals.{refusal-unsound, refusal-judged, refusal-full, refusal-none}
-use Rattle.table_room.proofs.Fewness.{few}
-use Rattle.row_insertion.proofs.Relied.{insert-checked, adds-few, few-as}
+use Rattle.refusals.proofs.Laws.{is-sound, room-as, unsound}
+use Rattle.refusals.proofs.Tests.{_then_, done, commit-judged}
+use Rattle.commits.proofs.Judged.{time-as, table-live-as}
+use Rattle.row_insertion.proofs.Judges.{statistics-as, numbers-as}
 use Rattle.row_insertion.proofs.refuse.refuse_insert.Statement.{statement}
 use Rattle.row_insertion.proofs.refuse.refuse_insert.Tie as tie
 
 returns : tie.Need-returns
-returns c m = refusal-unsound _ _ m _ (failed (c .before .is-sound .ensures) (c .if1 .taken))
+returns c w p q r f d x k m = unsound w _ k m _ (c .if1 .taken)
 
-judge-insert-requires : tie.Need-judge-insert-requires
-judge-insert-requires c κs = insert-checked _ _ (ready _ _ (passed (c .before .is-sound .ensures) (c .if1 .left)))
+latest-snapshot-requires : tie.Need-latest-snapshot-requires
+latest-snapshot-requires c κs =
+    let start : tie.Start = search in
+    let l = start .pre (not-false _ (c .if1 .left)) .latest in
+    (l .held, l .some)
+
+table-is-live-requires : tie.Need-table-is-live-requires
+table-is-live-requires c κs =
+    let start : tie.Start = search in
+    let sound : tie.Else1 = search in
+    start .pre (not-false _ (sound .if1 .left)) .tables
+
+uuid-is-free-requires : tie.Need-uuid-is-free-requires
+uuid-is-free-requires c κs =
+    let start : tie.Start = search in
+    let sound : tie.Else1 = search in
+    start .pre (not-false _ (sound .if1 .left)) .files
+
+statistics-argument-fits-requires : tie.Need-statistics-argument-fits-requires
+statistics-argument-fits-requires c κs =
+    let start : tie.Start = search in
+    let sound : tie.Else1 = search in
+    start .pre (not-false _ (sound .if1 .left)) .columns
+
+numbers-fit-requires : tie.Need-numbers-fit-requires
+numbers-fit-requires c κs =
+    let start : tie.Start = search in
+    let sound : tie.Else1 = search in
+    let latest : tie.After-latest-snapshot = search in
+    let p = start .pre (not-false _ (sound .if1 .left)) in
+    record { inRange = ap snapshotInRange (latest .latest-snapshot .ensures) ∙ p .latest .inRange; tables = p .tables }
 
 returns-2 : tie.Need-returns-2
-returns-2 c m =
-    let a = c .before .before in
-    let s = passed (a .before .is-sound .ensures) (a .if1 .left) in
-    refusal-judged _ _ m _ s (c .before .judge-insert .ensures _ refl refl refl refl refl refl s) (c .if2 .taken)
-
-has-room-requires : tie.Need-has-room-requires
-has-room-requires c κs =
-    let d = c .before in
-    let a = d .before .before in
-    let s = passed (a .before .is-sound .ensures) (a .if1 .left) in
-    let R = ready _ _ s in
-    (few _ _ R, few-as (c .insert-adds .ensures) (adds-few _ _ R _ _ _ _ _ (sym (d .before .judge-insert .ensures _ refl refl refl refl refl refl s) ∙ d .if2 .left)))
-
-returns-3 : tie.Need-returns-3
-returns-3 c m =
-    let d = c .before .before .before in
-    let a = d .before .before in
-    let s = passed (a .before .is-sound .ensures) (a .if1 .left) in
-    refusal-full _ _ m _ s (d .before .judge-insert .ensures _ refl refl refl refl refl refl s) (d .if2 .left)
-    (failed (room-after _ _ (ready _ _ s .fits) _ _ (insert-adds _ _ _ _ _ _) (c .before .has-room .ensures) (ap (addCounts _) (c .before .before .insert-adds .ensures))) (c .if3 .taken))
-
-returns-4 : tie.Need-returns-4
-unfolding answer
-returns-4 c m =
-    let d = c .before .before .before in
-    let a = d .before .before in
-    let s = passed (a .before .is-sound .ensures) (a .if1 .left) in
-    refusal-none _ _ m _ s (d .before .judge-insert .ensures _ refl refl refl refl refl refl s) (d .if2 .left)
-    (passed (room-after _ _ (ready _ _ s .fits) _ _ (insert-adds _ _ _ _ _ _) (c .before .has-room .ensures) (ap (addCounts _) (c .before .before .insert-adds .ensures))) (c .if3 .left)) (omega arith)
+returns-2 c w p q r f d x k m =
+    let room : tie.After-has-room = search in
+    let adds : tie.After-insert-adds = search in
+    let fits : tie.After-numbers-fit = search in
+    let given : tie.After-statistics-argument-fits = search in
+    let free : tie.After-uuid-is-free = search in
+    let counted : tie.After-is-record-count = search in
+    let time : tie.After-is-in-time = search in
+    let live : tie.After-table-is-live = search in
+    let latest : tie.After-latest-snapshot = search in
+    let sound : tie.Else1 = search in
+    let l = latest .latest-snapshot .ensures in
+    let s = is-sound w _ k (sound .if1 .left) in
+    commit-judged w _ k s m _ _ (insert-adds _ _ _ _ _ _) (c .first-refusal .ensures)
+    (table-live-as w _ p l _ q (live .table-is-live .ensures (w .tableNames)) then λ is-live.
+    time-as w _ p l _ (time .is-in-time .ensures) then λ _.
+    counted .is-record-count .ensures then λ _.
+    free .uuid-is-free .ensures w f d x then λ _.
+    statistics-as w _ p l _ _ _ r (given .statistics-argument-fits .ensures (w .columnNames)) then λ _.
+    numbers-as w _ p l _ _ _ _ _ s q is-live (fits .numbers-fit .ensures (w .tableNames)) then λ _.
+    room-as _ _ (room .has-room .ensures) (adds .insert-adds .ensures) then λ _.
+    done)
 
 pub refuse-insert-spec : {M : Type 1} → statement M
 refuse-insert-spec =
     tie.close
-    (tie.spec (λ c κs. search needs) returns judge-insert-requires returns-2 (λ c κs. search needs) has-room-requires returns-3 returns-4)
+    (tie.spec
+    returns
+    latest-snapshot-requires
+    table-is-live-requires
+    (λ c κs. search needs)
+    (λ c κs. search needs)
+    uuid-is-free-requires
+    statistics-argument-fits-requires
+    numbers-fit-requires
+    (λ c κs. search needs)
+    (λ c κs. search needs)
+    (λ c. search needs)
+    (λ c. search needs)
+    (λ c κs. search needs)
+    returns-2)

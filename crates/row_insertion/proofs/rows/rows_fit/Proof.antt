@@ -1,20 +1,19 @@
--- `rows_fit` meets its contract: so few rows can be taken from the limit instead of being added.
-use borrow.Author.Needs.{needs}
-use Prim.Native.Nat.{ℕ, _+_, _-_, _≤_}
-use mathlib.Core.Path.{_≡_}
-use native.Mathlib.Omega.{arith}
-use lib.Dec.{leb}
-use borrow.Author.Tests.{leb-true, le-leb}
-use Rattle.lists.proofs.Tests.{same-test}
-use Rattle.layout.specs.Catalog.{numberLimit, recordCountLimit}
+-- `rows_fit` meets its contract: rows that are not past the limit by themselves can be taken from it instead of being added.
+use Rattle.layout.specs.Catalog.{numberLimit}
+use Rattle.refusals.proofs.Laws.{sum-past, sum-within}
 use Rattle.row_insertion.proofs.rows.rows_fit.Statement.{statement}
 use Rattle.row_insertion.proofs.rows.rows_fit.Tie as tie
 
-moved : (a b : ℕ) → b ≤ recordCountLimit → leb a (numberLimit - b) ≡ leb (a + b) numberLimit
-moved a b h = same-test _ _ (λ t. le-leb (a + b) numberLimit (omega (arith, leb-true a (numberLimit - b) t))) (λ t. le-leb a (numberLimit - b) (omega (arith, leb-true (a + b) numberLimit t)))
-
 returns : tie.Need-returns
-returns c = moved _ _ (c .before .pre)
+returns c =
+    let start : tie.Start = search in
+    sum-past (start .args .first .0) (start .args .rows) numberLimit (c .if1 .taken)
+
+returns-2 : tie.Need-returns-2
+returns-2 c =
+    let start : tie.Start = search in
+    let within : tie.Else1 = search in
+    sum-within (start .args .first .0) (start .args .rows) numberLimit (within .if1 .left)
 
 pub rows-fit-spec : {M : Type 1} → statement M
-rows-fit-spec = tie.close (tie.spec (λ c. search needs) returns)
+rows-fit-spec = tie.close (tie.spec returns returns-2)

@@ -10,7 +10,7 @@ use Rattle.lists.proofs.Windows.{getD-padded}
 use Rattle.layout.specs.Words.{tableLimit, dataFilesIn, deleteFilesIn}
 use Rattle.ducklake.specs.Liveness.{dataFilesAt}
 use Rattle.ducklake.specs.Readings.{fileRows}
-use Rattle.scans.proofs.AnswerAreas.{answered-short, answered-whole}
+use Rattle.readings.proofs.AnswerAreas.{answered-short, answered-whole}
 use Rattle.row_lists.proofs.RowLists.{rows-located}
 use Rattle.row_lists.proofs.rows.read_rows.Statement.{statement}
 use Rattle.row_lists.proofs.rows.read_rows.Tie as tie

@@ -4,8 +4,6 @@ use Prim.Native.Nat.{_-_, _≤_}
 use mathlib.Core.Path.{_≡_, refl, ap, _∙_}
 use native.Mathlib.Omega.{arith}
 use lib.ListN.{length}
-use Rattle.lists.proofs.Runs.{record-fits}
-use Rattle.layout.specs.Fields.{deleteFileSize}
 use Rattle.scans.proofs.LiveDeletes.{FoundFrom, found-start, found-live, found-ended, found-end}
 use Rattle.scans.proofs.deletions.find_live_delete_files.Statement.{statement}
 use Rattle.scans.proofs.deletions.find_live_delete_files.Tie as tie

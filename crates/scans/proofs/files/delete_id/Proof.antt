@@ -1,7 +1,7 @@
 -- A place counted from 1 is one more than a place.
 use borrow.Author.Needs.{needs}
 use Prim.Native.Nat.{suc, _-_}
-use mathlib.Core.Path.{_≡_, refl, sym, ap, _∙_}
+use mathlib.Core.Path.{_≡_, sym, ap, _∙_}
 use native.Mathlib.Omega.{arith}
 use Rattle.scans.specs.Deletions.{deleteIdAt}
 use Rattle.scans.proofs.files.delete_id.Statement.{statement}

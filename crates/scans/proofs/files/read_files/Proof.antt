@@ -4,13 +4,12 @@ use Prim.Native.Nat.{ℕ, _*_}
 use mathlib.Core.Path.{_≡_, sym, ap, _∙_}
 use mathlib.Core.List.{[], flatMap}
 use native.Mathlib.Omega.{arith}
-use lib.ListN.{length, getD, replicate, length-replicate}
+use lib.ListN.{getD, replicate, length-replicate}
 use Rattle.lists.proofs.Windows.{getD-padded}
 use Rattle.layout.specs.Words.{tableLimit, dataFilesIn, deleteFilesIn, statisticsIn}
 use Rattle.ducklake.specs.Readings.{listed}
-use Rattle.scans.specs.Answers.{listedSize}
-use Rattle.scans.specs.Filters.{filesRead}
-use Rattle.scans.proofs.AnswerAreas.{answered-short, answered-whole}
+use Rattle.scans.specs.Filters.{listedSize, filesRead}
+use Rattle.readings.proofs.AnswerAreas.{answered-short, answered-whole}
 use Rattle.scans.proofs.FileLists.{list-length}
 use Rattle.scans.proofs.files.read_files.Statement.{statement}
 use Rattle.scans.proofs.files.read_files.Tie as tie

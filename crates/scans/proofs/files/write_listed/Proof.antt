@@ -1,10 +1,8 @@
 -- Two words, one after the other.
 use borrow.Author.Needs.{needs}
-use mathlib.Core.Path.{ap, ap₂, _∙_}
-use mathlib.Core.List.{[], _∷_}
+use mathlib.Core.Path.{ap}
 use native.Mathlib.Omega.{arith}
-use lib.ListN.{length-set, set}
-use Rattle.lists.specs.Runs.{overwrite}
+use lib.ListN.{length-set}
 use Rattle.scans.proofs.FileLists.{two-words}
 use Rattle.scans.proofs.files.write_listed.Statement.{statement}
 use Rattle.scans.proofs.files.write_listed.Tie as tie

@@ -1,65 +1,89 @@
--- `refuse_create_table` meets its contract: each way out is one of the definition's, by the laws of refusals.
+-- `refuse_create_table` meets its contract: its tests, in the definition's order.
 use borrow.Author.Needs.{needs}
-use mathlib.Core.Path.{refl, ap}
-use native.Mathlib.Omega.{arith}
-use Rattle.lists.proofs.Tests.{passed, failed}
-use Rattle.ducklake.specs.Calls.{answer}
-use Rattle.call_laws.specs.Writes.{addCounts}
-use Rattle.call_laws.proofs.Commits.{room-after}
+use mathlib.Core.Path.{ap, _∙_}
+use borrow.Author.Tests.{not-false}
+use Rattle.ducklake.specs.Soundness.{snapshotInRange}
 use Rattle.call_laws.proofs.CommitCounts.{create-table-adds}
-use Rattle.call_laws.proofs.Ready.{ready}
-use Rattle.call_laws.proofs.Refusals.{refusal-unsound, refusal-judged, refusal-full, refusal-none}
-use Rattle.commit_checks.proofs.Relied.{tables-named, row-ids-fit}
-use Rattle.table_room.proofs.Fewness.{few}
-use Rattle.table_creation.proofs.Judged.{create-table-passed}
-use Rattle.table_creation.proofs.Relied.{few-added}
+use Rattle.commits.proofs.Judged.{time-as, schema-live-as, table-name-as}
+use Rattle.refusals.proofs.Laws.{is-sound, room-as, unsound}
+use Rattle.refusals.proofs.Tests.{_then_, done, commit-judged}
+use Rattle.table_creation.proofs.Judged.{table-numbers-as}
 use Rattle.table_creation.proofs.refuse.refuse_create_table.Statement.{statement}
 use Rattle.table_creation.proofs.refuse.refuse_create_table.Tie as tie
 
 returns : tie.Need-returns
-returns c m = refusal-unsound _ _ m _ (failed (c .before .is-sound .ensures) (c .if1 .taken))
+returns c w p q r s k m = unsound w _ k m _ (c .if1 .taken)
 
-judge-create-table-requires : tie.Need-judge-create-table-requires
-judge-create-table-requires c κs =
-    let R = ready _ _ (passed (c .before .is-sound .ensures) (c .if1 .left)) in
-    record { latest = R .latest; schemas = record { lent = R .held .schemas; inside = omega arith; ascending = R .schemaIds }; tables = tables-named _ _ R }
+latest-snapshot-requires : tie.Need-latest-snapshot-requires
+latest-snapshot-requires c κs =
+    let start : tie.Start = search in
+    let l = start .pre (not-false _ (c .if1 .left)) .latest in
+    (l .held, l .some)
+
+schema-is-live-requires : tie.Need-schema-is-live-requires
+schema-is-live-requires c κs =
+    let start : tie.Start = search in
+    let sound : tie.Else1 = search in
+    start .pre (not-false _ (sound .if1 .left)) .schemas
+
+table-name-is-free-requires : tie.Need-table-name-is-free-requires
+table-name-is-free-requires c κs =
+    let start : tie.Start = search in
+    let sound : tie.Else1 = search in
+    start .pre (not-false _ (sound .if1 .left)) .tables
+
+next-snapshot-requires : tie.Need-next-snapshot-requires
+next-snapshot-requires c κs =
+    let start : tie.Start = search in
+    let sound : tie.Else1 = search in
+    let latest : tie.After-latest-snapshot = search in
+    record {
+      inRange = ap snapshotInRange (latest .latest-snapshot .ensures) ∙ start .pre (not-false _ (sound .if1 .left)) .latest .inRange;
+      fewCatalogIds = search needs;
+      fewFileIds = search needs;
+    }
 
 returns-2 : tie.Need-returns-2
-returns-2 c m =
-    let a = c .before .before in
-    let s = passed (a .before .is-sound .ensures) (a .if1 .left) in
-    refusal-judged _ _ m _ s (c .before .judge-create-table .ensures _ refl refl refl refl (row-ids-fit _ _ (ready _ _ s))) (c .if2 .taken)
-
-has-room-requires : tie.Need-has-room-requires
-has-room-requires c κs =
-    let d = c .before in
-    let a = d .before .before in
-    let R = ready _ _ (passed (a .before .is-sound .ensures) (a .if1 .left)) in
-    let P = create-table-passed _ _ _ _ _ _ (d .before .judge-create-table .ensures _ refl refl refl refl (row-ids-fit _ _ R)) (d .if2 .left) in
-    (few _ _ R, few-added _ _ _ (P .fit) (c .table-added .ensures))
-
-returns-3 : tie.Need-returns-3
-returns-3 c m =
-    let t = c .before .before in
-    let d = t .before in
-    let a = d .before .before in
-    let s = passed (a .before .is-sound .ensures) (a .if1 .left) in
-    let R = ready _ _ s in
-    refusal-full _ _ m _ s (d .before .judge-create-table .ensures _ refl refl refl refl (row-ids-fit _ _ R)) (d .if2 .left)
-    (failed (room-after _ _ (R .fits) _ _ (create-table-adds _ _ _ _ _ _) (c .before .has-room .ensures) (ap (addCounts _) (t .table-added .ensures))) (c .if3 .taken))
-
-returns-4 : tie.Need-returns-4
-unfolding answer
-returns-4 c m =
-    let t = c .before .before in
-    let d = t .before in
-    let a = d .before .before in
-    let s = passed (a .before .is-sound .ensures) (a .if1 .left) in
-    let R = ready _ _ s in
-    refusal-none _ _ m _ s (d .before .judge-create-table .ensures _ refl refl refl refl (row-ids-fit _ _ R)) (d .if2 .left)
-    (passed (room-after _ _ (R .fits) _ _ (create-table-adds _ _ _ _ _ _) (c .before .has-room .ensures) (ap (addCounts _) (t .table-added .ensures))) (c .if3 .left)) (omega arith)
+returns-2 c w p q r s k m =
+    let room : tie.After-has-room = search in
+    let added : tie.After-table-added = search in
+    let fits : tie.After-snapshot-fits = search in
+    let next : tie.After-next-snapshot = search in
+    let formed : tie.After-columns-fit = search in
+    let free : tie.After-table-name-is-free = search in
+    let named : tie.After-is-name-argument = search in
+    let time : tie.After-is-in-time = search in
+    let live : tie.After-schema-is-live = search in
+    let latest : tie.After-latest-snapshot = search in
+    let sound : tie.Else1 = search in
+    let l = latest .latest-snapshot .ensures in
+    let is = is-sound w _ k (sound .if1 .left) in
+    commit-judged w _ k is m _ _ (create-table-adds _ _ _ _ _ _) (c .first-refusal .ensures)
+    (schema-live-as w _ p l _ q (live .schema-is-live .ensures (w .schemaNames)) then λ _.
+    time-as w _ p l _ (time .is-in-time .ensures) then λ _.
+    named .is-name-argument .ensures then λ _.
+    table-name-as w _ p l _ _ r s (free .table-name-is-free .ensures) then λ _.
+    formed .columns-fit .ensures _ then λ _.
+    table-numbers-as w _ p l is _ _ _ _ _ (fits .snapshot-fits .ensures ∙ ap snapshotInRange (next .next-snapshot .ensures)) then λ _.
+    room-as _ _ (room .has-room .ensures) (added .table-added .ensures) then λ _.
+    done)
 
 pub refuse-create-table-spec : {M : Type 1} → statement M
 refuse-create-table-spec =
     tie.close
-    (tie.spec (λ c κs. search needs) returns judge-create-table-requires returns-2 (λ c κs. search needs) has-room-requires returns-3 returns-4)
+    (tie.spec
+    returns
+    latest-snapshot-requires
+    schema-is-live-requires
+    (λ c κs. search needs)
+    (λ c κs. search needs)
+    table-name-is-free-requires
+    (λ c κs. search needs)
+    next-snapshot-requires
+    (λ c κs. search needs)
+    (λ c κs. search needs)
+    (λ c κs. search needs)
+    (λ c. search needs)
+    (λ c. search needs)
+    (λ c κs. search needs)
+    returns-2)

@@ -1,2 +1,0 @@
-pub mod Appends
-pub mod Fits

@@ -1,4 +1,0 @@
-pub mod Judges
-pub mod Lives
-pub mod Relied
-pub mod Uuids

@@ -1,0 +1,7 @@
+pub mod Effects
+pub mod Found
+pub mod Judged
+pub mod Lives
+pub mod Relied
+pub mod Room
+pub mod Uuids

@@ -1,4 +1,0 @@
-pub mod Fits
-pub mod Merging
-pub mod Offending
-pub mod Parts

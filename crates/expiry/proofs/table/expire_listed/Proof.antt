@@ -1,0 +1,13 @@
+-- `expire_listed` meets its contract: the flags are those of what stays.
+use borrow.Author.Needs.{needs}
+use Rattle.lists.proofs.Flags.{compacted-as}
+use Rattle.expiry.proofs.table.expire_listed.Statement.{statement}
+use Rattle.expiry.proofs.table.expire_listed.Tie as tie
+
+returns : tie.Need-returns
+returns c = let f = c .before .before .before .before .before .before .flag-snapshots .ensures in compacted-as _ (λ j h. f .set j h) (c .before .before .keep-records .ensures)
+
+pub expire-listed-spec : {M : Type 1} → statement M
+expire-listed-spec =
+    tie.close
+    (tie.spec (λ c. search needs) (λ c κs. search needs) (λ c. search needs) (λ c κs. search needs) (λ c. search needs) returns)

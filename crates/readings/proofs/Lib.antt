@@ -1,0 +1,4 @@
+pub mod AnswerAreas
+pub mod Found
+pub mod Judged
+pub mod Promises

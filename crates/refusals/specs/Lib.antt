@@ -1,0 +1,3 @@
+pub mod Checked
+pub mod Paired
+pub mod Relied
