@@ -133,16 +133,16 @@ idsBelowNext C =
 unfoldable pub filesDistinct : Catalog → Bool
 filesDistinct C = pairwise (λ a b. not (eqb a b)) (fileIds C) && pairwise (λ a b. not (sameUuid a b)) (fileUuids C)
 
--- the first's life holds the second's: half-open intervals of numbers, ABSENT greatest
-unfoldable pub holds : {A B : Type 0} → Versioned A → Versioned B → Bool
-holds a b = leb (a .begin) (b .begin) && leb (b .end) (a .end)
+-- the first's life contains the second's: half-open intervals of numbers, ABSENT greatest
+unfoldable pub contains : {A B : Type 0} → Versioned A → Versioned B → Bool
+contains a b = leb (a .begin) (b .begin) && leb (b .end) (a .end)
 
 unfoldable pub sameLife : {A B : Type 0} → Versioned A → Versioned B → Bool
 sameLife a b = eqb (a .begin) (b .begin) && eqb (a .end) (b .end)
 
 -- "a table's life lies within its schema's"
 unfoldable pub tableNests : List (Versioned Schema) → Versioned Table → Bool
-tableNests ss t = any (λ s. eqb (s .id) (t .body .schema) && holds s t) ss
+tableNests ss t = any (λ s. eqb (s .id) (t .body .schema) && contains s t) ss
 
 -- "a column's is its table's"
 unfoldable pub columnNests : List (Versioned Table) → Versioned Column → Bool
@@ -150,11 +150,11 @@ columnNests ts c = any (λ t. eqb (t .id) (c .body .table) && sameLife t c) ts
 
 -- "a data file's lies within its table's"
 unfoldable pub dataFileNests : List (Versioned Table) → Versioned DataFile → Bool
-dataFileNests ts f = any (λ t. eqb (t .id) (f .body .table) && holds t f) ts
+dataFileNests ts f = any (λ t. eqb (t .id) (f .body .table) && contains t f) ts
 
 -- "a delete file's within its data file's, and their table ids match"
 unfoldable pub deleteFileNests : List (Versioned DataFile) → Versioned DeleteFile → Bool
-deleteFileNests fs d = any (λ f. eqb (f .id) (d .body .dataFile) && eqb (f .body .table) (d .body .table) && holds f d) fs
+deleteFileNests fs d = any (λ f. eqb (f .id) (d .body .dataFile) && eqb (f .body .table) (d .body .table) && contains f d) fs
 
 unfoldable pub livesNest : Catalog → Bool
 livesNest C =

@@ -7,7 +7,7 @@ use layout::record::ColumnRecord;
 use layout::record::StatisticsRecord;
 use runs::fields::count_below;
 use runs::fields::count_through;
-use runs::probes::even_place;
+use runs::probes::interpolate;
 
 // The places from `start` up to, and without, `end`.
 pub struct Block {
@@ -32,7 +32,7 @@ pub fn columns_of(columns: &[u64], n: usize, table: CatalogId) -> Block
     requires { ⌜ ColumnsByTable (now columns) n ⌝ }
     ensures { λ r. ⌜ Together (field columnSize columnTableWord (now (columns .entry))) n (table .0) (r .start) (r .end) ⌝ }
 {
-    let near = even_place(columns, ColumnRecord::SIZE, ColumnRecord::TABLE, n, table.0);
+    let near = interpolate(columns, ColumnRecord::SIZE, ColumnRecord::TABLE, n, table.0);
     columns_near(columns, n, table, near)
 }
 
@@ -54,7 +54,7 @@ pub fn statistics_of(statistics: &[u64], n: usize, data_file: FileId) -> Block
     ensures { λ r. ⌜ Together (field statisticsSize statisticsDataFileWord (now (statistics .entry))) n («data_file» .0) (r .start) (r .end) ⌝ }
 {
     let size = StatisticsRecord::SIZE;
-    let near = even_place(
+    let near = interpolate(
         statistics,
         size,
         StatisticsRecord::DATA_FILE,

@@ -19,7 +19,7 @@ use lists::Found;
 use records::snapshot::snapshot_at;
 use runs::fields::count_through;
 use runs::fields::find_field;
-use runs::probes::even_place;
+use runs::probes::interpolate;
 
 // The place of the record of an id.
 pub fn find_snapshot(snapshots: &[u64], n: usize, id: SnapshotId) -> Found
@@ -83,7 +83,7 @@ pub fn latest_by(snapshots: &[u64], n: usize, t: u64) -> Found
     ensures { λ r. ⌜ LatestBy (now (snapshots .entry)) n t r ⌝ }
 {
     let size = SnapshotRecord::SIZE;
-    let near = even_place(snapshots, size, SnapshotRecord::TIME, n, t);
+    let near = interpolate(snapshots, size, SnapshotRecord::TIME, n, t);
     let k = count_through(snapshots, size, SnapshotRecord::TIME, n, t, near);
     if k == 0 {
         return Found::Nothing;

@@ -2,7 +2,7 @@ ghost use mathlib.Core.Path.{_≡_};
 ghost use Prim.Native.Nat.{_+_, _*_, _≤_, _<_};
 ghost use lib.ListN.{length};
 ghost use Rattle.ducklake.specs.Liveness.{live};
-ghost use Rattle.ducklake.specs.Soundness.{overlap, holds, sameLife};
+ghost use Rattle.ducklake.specs.Soundness.{overlap, contains, sameLife};
 ghost use Rattle.lookup.specs.Versions.{lifeAt, withLife};
 use layout::number::ABSENT;
 use layout::number::SnapshotId;
@@ -42,8 +42,8 @@ pub fn lives_overlap(a: Life, b: Life) -> bool
 }
 
 // Whether the second lies within the first.
-pub fn life_holds(a: Life, b: Life) -> bool
-    ensures { λ r. ⌜ r ≡ holds (withLife a) (withLife b) ⌝ }
+pub fn life_contains(a: Life, b: Life) -> bool
+    ensures { λ r. ⌜ r ≡ contains (withLife a) (withLife b) ⌝ }
 {
     (a.begin.0 <= b.begin.0) & (b.end.0 <= a.end.0)
 }

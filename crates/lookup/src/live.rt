@@ -21,7 +21,7 @@ use lists::Found;
 use runs::fields::count_below;
 use runs::fields::field_at;
 use runs::fields::find_field;
-use runs::probes::even_place;
+use runs::probes::interpolate;
 
 // Whether a snapshot is retained.
 pub fn is_retained(snapshots: &[u64], n: usize, s: SnapshotId) -> bool
@@ -48,7 +48,7 @@ pub fn is_live_among(w: &[u64], size: usize, word: usize, n: usize, l: Life) -> 
             return true;
         }
     }
-    let near = even_place(w, size, word, n, l.begin.0);
+    let near = interpolate(w, size, word, n, l.begin.0);
     let i = count_below(w, size, word, n, l.begin.0, near);
     if n <= i {
         return false;

@@ -5,7 +5,7 @@ ghost use lib.Dec.{leb, ltb, eqb};
 ghost use lib.ListN.{length};
 ghost use Rattle.lists.specs.Lists.{all, chained, count, place};
 ghost use Rattle.lists.specs.Runs.{field, fields};
-use crate::probes::even_place;
+use crate::probes::interpolate;
 use crate::probes::probe;
 use crate::probes::step_towards;
 use lists::Found;
@@ -183,7 +183,7 @@ pub fn find_field(w: &[u64], size: usize, at: usize, n: usize, x: u64) -> Found
     requires { ⌜ (size * n ≤ length (now w)) × (at < size) × (chained ltb (fields size at (now w) n) ≡ true) ⌝ }
     ensures { λ r. ⌜ r ≡ place (λ y. eqb y x) 0 (fields size at (now (w .entry)) n) ⌝ }
 {
-    let near = even_place(w, size, at, n, x);
+    let near = interpolate(w, size, at, n, x);
     if near < n {
         let y = field_at(w, size, at, near);
         if y == x {

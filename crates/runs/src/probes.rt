@@ -7,7 +7,7 @@ use crate::fields::field_at;
 const WIDE: u64 = 4294967296;
 
 // Where x stands if the words rise evenly from the first to the last, as ids do: where a search begins.
-pub fn even_place(w: &[u64], size: usize, at: usize, n: usize, x: u64) -> usize
+pub fn interpolate(w: &[u64], size: usize, at: usize, n: usize, x: u64) -> usize
     requires { ⌜ (size * n ≤ length (now w)) × (at < size) ⌝ }
 {
     if n == 0 {

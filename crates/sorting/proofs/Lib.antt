@@ -1,4 +1,4 @@
-pub mod Crowding
+pub mod Collisions
 pub mod Groups
 pub mod KeyOrder
 pub mod Merging

@@ -1,3 +1,3 @@
-pub mod Crowded
+pub mod Colliding
 pub mod Keys
 pub mod Sorting

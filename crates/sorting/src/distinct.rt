@@ -4,7 +4,7 @@ ghost use Prim.Native.Nat.{_*_, _≤_};
 ghost use lib.ListN.{length};
 ghost use Rattle.lists.specs.Lists.{range, pairwise, chained};
 ghost use Rattle.sorting.specs.Keys.{sameKey, Keyed};
-use crate::crowded::thin;
+use crate::colliding::thin;
 use crate::keys::same_key;
 use crate::sort::number;
 use crate::sort::sort;

@@ -7,7 +7,7 @@ ghost use lib.ListN.{length};
 ghost use Rattle.lists.specs.Lists.{all, any};
 ghost use Rattle.layout.specs.Fields.{tableSize, columnSize, dataFileSize, deleteFileSize};
 ghost use Rattle.layout.specs.Words.{Words, load, schemasIn, tablesIn, columnAt, columnsIn, dataFilesIn, deleteFileAt, deleteFilesIn};
-ghost use Rattle.ducklake.specs.Soundness.{holds, tableNests, columnNests, dataFileNests, deleteFileNests, livesNest};
+ghost use Rattle.ducklake.specs.Soundness.{contains, tableNests, columnNests, dataFileNests, deleteFileNests, livesNest};
 ghost use Rattle.lookup.specs.Order.{ById, SchemasById, TablesById, DataFilesById};
 ghost use Rattle.lookup.specs.Versions.{withLife, versionsIn};
 ghost use Rattle.soundness_lives.specs.Lent.{Nestable};
@@ -22,7 +22,7 @@ use lookup::find::find_data_file;
 use lookup::find::find_table;
 use lookup::life::Life;
 use lookup::life::life_at;
-use lookup::life::life_holds;
+use lookup::life::life_contains;
 use lookup::life::same_life;
 use records::column::column_table;
 use records::data_file::data_file_table;
@@ -31,16 +31,16 @@ use records::delete_file::delete_file_table;
 use records::table::table_schema;
 use runs::fields::find_field;
 
-// Whether the record of an id holds that life: records of `size` words with a life from the word `life` on.
+// Whether the record of an id contains that life: records of `size` words with a life from the word `life` on.
 fn is_held(w: &[u64], size: usize, id_word: usize, life: usize, n: usize, id: u64, l: Life) -> bool
     requires { ⌜ ById size «id_word» (now w) n × (life + 1 < size) ⌝ }
-    ensures { λ r. ⌜ r ≡ any (λ v. eqb (v .id) id && holds v (withLife l)) (versionsIn size «id_word» life (now (w .entry)) n) ⌝ }
+    ensures { λ r. ⌜ r ≡ any (λ v. eqb (v .id) id && contains v (withLife l)) (versionsIn size «id_word» life (now (w .entry)) n) ⌝ }
 {
     let found = find_field(w, size, id_word, n, id);
     match found {
         Found::At(i) => {
             let outer = life_at(w, size, life, i);
-            life_holds(outer, l)
+            life_contains(outer, l)
         }
         Found::Nothing => false,
     }
@@ -148,7 +148,7 @@ fn delete_file_nests(data_files: &[u64], n: usize, delete_files: &[u64], i: usiz
         Found::At(j) => {
             let of_file = data_file_table(data_files, j);
             let outer = life_at(data_files, DataFileRecord::SIZE, DataFileRecord::BEGIN, j);
-            let held = life_holds(outer, l);
+            let held = life_contains(outer, l);
             (of_file.0 == table.0) & held
         }
         Found::Nothing => false,

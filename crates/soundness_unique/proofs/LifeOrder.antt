@@ -14,7 +14,7 @@ use Rattle.lists.proofs.Tests.{Reflects, if, either, both, and, clash, or-left,
 use Rattle.lists.proofs.Loops.{from-step, from-end, from-length}
 use Rattle.lists.proofs.Places.{from-split}
 use Rattle.ducklake.specs.Soundness.{overlap}
-use Rattle.sorting.specs.Crowded.{prefixAt, samePrefix, Thinned}
+use Rattle.sorting.specs.Colliding.{prefixAt, samePrefix, Thinned}
 use Rattle.sorting.specs.Keys.{keyAt, atMost, sameWords, inOrder, Keyed}
 use Rattle.sorting.specs.Sorting.{Permutes}
 use Rattle.sorting.proofs.Groups.{groups-sorted}

@@ -20,7 +20,7 @@ use Rattle.layout.specs.Words.{schemaAt, schemasIn, tableAt, tablesIn, columnAt
 use Rattle.ducklake.specs.Soundness.{overlap, schemasApart, tablesApart, columnsApart}
 use Rattle.names.specs.NameWords.{nameWordCount, nameWord, nameWords}
 use Rattle.names.proofs.NameWords.{words-agree}
-use Rattle.sorting.specs.Crowded.{prefixAt, samePrefix}
+use Rattle.sorting.specs.Colliding.{prefixAt, samePrefix}
 use Rattle.sorting.specs.Keys.{Put}
 use Rattle.sorting.proofs.Putting.{put-next}
 use Rattle.soundness_unique.specs.declared.naming.Group.{Group}

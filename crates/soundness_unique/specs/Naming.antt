@@ -11,7 +11,7 @@ use Rattle.layout.specs.Names.{nameSize, nameAt, isName, sameName}
 use Rattle.ducklake.specs.Soundness.{overlap}
 use Rattle.lookup.specs.Versions.{lifeAt, withLife}
 use Rattle.names.specs.NameWords.{nameWordCount, nameWord}
-use Rattle.sorting.specs.Crowded.{samePrefix}
+use Rattle.sorting.specs.Colliding.{samePrefix}
 use Rattle.soundness_unique.specs.declared.naming.Group.{Group}
 use Rattle.soundness_unique.specs.declared.naming.Group.the-variants.{All, With}
 

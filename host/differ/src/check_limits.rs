@@ -7,7 +7,7 @@ use second::lent::{COLUMN_LIMIT, RECORD_LIMIT};
 use second::{load, Counts, Words};
 
 /// What the hashes of `contents` are made for.
-const HASHES: &str = include_str!("../../../crates/sorting/src/crowded.rt");
+const HASHES: &str = include_str!("../../../crates/sorting/src/colliding.rt");
 
 /// Lines of 'Sound tables': counts within the limits, and the limit of a table's columns.
 const COUNTS_LINE: u64 = 1;

@@ -12,7 +12,7 @@ pub const RECORDS: usize = RECORD_LIMIT + 1;
 /// Rows of a data file and positions of a delete file: together as many positions as may be used.
 pub const ROWS: usize = POSITION_LIMIT / RECORD_LIMIT;
 
-/// The check tells keys apart by their remainders by these, as crates/sorting/src/crowded.rt has them: words that are multiples of both have one hash.
+/// The check tells keys apart by their remainders by these, as crates/sorting/src/colliding.rt has them: words that are multiples of both have one hash.
 pub const MODULI: [u64; 2] = [65_521, 65_519];
 
 /// Words that leave the same remainder by both: names put together from them have one hash.

@@ -20,7 +20,7 @@ use Rattle.layout.specs.Names.{sameName}
 use Rattle.layout.specs.Words.{Words, load, capacity, within, fits}
 use Rattle.ducklake.specs.Kinds.{isKind}
 use Rattle.ducklake.specs.Liveness.{live, liveAtSome, latest, latestId, columnsAt}
-use Rattle.ducklake.specs.Soundness.{snapshotInRange, schemaInRange, tableInRange, columnInRange, dataFileInRange, deleteFileInRange, statisticsInRange, scheduledInRange, fieldsInRange, follows, snapshotsRise, lifeSound, livesSound, byId, byTableAndId, byFileAndColumn, idsAscend, fileIds, fileUuids, sameUuid, idsBelowNext, filesDistinct, holds, sameLife, tableNests, columnNests, dataFileNests, deleteFileNests, livesNest, overlap, schemasApart, tablesApart, columnsApart, namesApart, succeededBy, deleteFilesApart, positionsSound, deletesSound, rowIdEnd, rowsBefore, rowsInTable, rowRangesSound, fileStatisticsSound, statisticsOnFile, statisticsSound, columnCountSound, columnCountsSound, soundLines, positionsAddUp, firstUnsound, sound}
+use Rattle.ducklake.specs.Soundness.{snapshotInRange, schemaInRange, tableInRange, columnInRange, dataFileInRange, deleteFileInRange, statisticsInRange, scheduledInRange, fieldsInRange, follows, snapshotsRise, lifeSound, livesSound, byId, byTableAndId, byFileAndColumn, idsAscend, fileIds, fileUuids, sameUuid, idsBelowNext, filesDistinct, contains, sameLife, tableNests, columnNests, dataFileNests, deleteFileNests, livesNest, overlap, schemasApart, tablesApart, columnsApart, namesApart, succeededBy, deleteFilesApart, positionsSound, deletesSound, rowIdEnd, rowsBefore, rowsInTable, rowRangesSound, fileStatisticsSound, statisticsOnFile, statisticsSound, columnCountSound, columnCountsSound, soundLines, positionsAddUp, firstUnsound, sound}
 use Rattle.ducklake.proofs.facts.Needs.{AllPassed, first-passed}
 
 -- a test that is passed
@@ -251,8 +251,8 @@ pub record Holds {A B : Type 0} (a : Versioned A) (b : Versioned B) : Type 0 whe
   pub after : a .begin ≤ b .begin
   pub until : b .end ≤ a .end
 
-reflects-holds : {A B : Type 0} (a : Versioned A) (b : Versioned B) → Reflects (holds a b) (Holds a b)
-unfolding holds
+reflects-holds : {A B : Type 0} (a : Versioned A) (b : Versioned B) → Reflects (contains a b) (Holds a b)
+unfolding contains
 reflects-holds a b =
     reflects-as (reflects-and (reflects-leb (a .begin) (b .begin)) (reflects-leb (b .end) (a .end)))
     (λ h. record { after = h .0; until = h .1 }) (λ h. (h .after, h .until))
@@ -302,7 +302,7 @@ reflects-nest C =
     (λ h. record { tables = h .0 .0 .0; columns = h .0 .0 .1; dataFiles = h .0 .1; deleteFiles = h .1 })
     (λ h. (((h .tables, h .columns), h .dataFiles), h .deleteFiles))
   where
-    table : (t : Versioned Table) (s : Versioned Schema) → Reflects (eqb (s .id) (t .body .schema) && holds s t) (TableIn t s)
+    table : (t : Versioned Table) (s : Versioned Schema) → Reflects (eqb (s .id) (t .body .schema) && contains s t) (TableIn t s)
     table t s = reflects-as (reflects-and (reflects-eqb (s .id) (t .body .schema)) (reflects-holds s t))
         (λ h. record { same = h .0; holds = h .1 }) (λ h. (h .same, h .holds))
 
@@ -310,12 +310,12 @@ reflects-nest C =
     column c t = reflects-as (reflects-and (reflects-eqb (t .id) (c .body .table)) (reflects-sameLife t c))
         (λ h. record { same = h .0; life = h .1 }) (λ h. (h .same, h .life))
 
-    dataFile : (f : Versioned DataFile) (t : Versioned Table) → Reflects (eqb (t .id) (f .body .table) && holds t f) (DataFileIn f t)
+    dataFile : (f : Versioned DataFile) (t : Versioned Table) → Reflects (eqb (t .id) (f .body .table) && contains t f) (DataFileIn f t)
     dataFile f t = reflects-as (reflects-and (reflects-eqb (t .id) (f .body .table)) (reflects-holds t f))
         (λ h. record { same = h .0; holds = h .1 }) (λ h. (h .same, h .holds))
 
     deleteFile : (d : Versioned DeleteFile) (f : Versioned DataFile)
-        → Reflects (eqb (f .id) (d .body .dataFile) && eqb (f .body .table) (d .body .table) && holds f d) (DeleteFileIn d f)
+        → Reflects (eqb (f .id) (d .body .dataFile) && eqb (f .body .table) (d .body .table) && contains f d) (DeleteFileIn d f)
     deleteFile d f = reflects-as (reflects-and (reflects-and (reflects-eqb (f .id) (d .body .dataFile)) (reflects-eqb (f .body .table) (d .body .table))) (reflects-holds f d))
         (λ h. record { same = h .0 .0; table = h .0 .1; holds = h .1 }) (λ h. ((h .same, h .table), h .holds))
 

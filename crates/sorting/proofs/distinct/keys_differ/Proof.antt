@@ -7,7 +7,7 @@ use lib.Seq.{length-take-le}
 use Rattle.lists.specs.Lists.{pairwise}
 use Rattle.lists.proofs.Loops.{length-range}
 use Rattle.sorting.proofs.KeyOrder.{keyed-range}
-use Rattle.sorting.proofs.Crowding.{thinned-keyed, distinct-thinned}
+use Rattle.sorting.proofs.Collisions.{thinned-keyed, distinct-thinned}
 use Rattle.sorting.proofs.distinct.keys_differ.Statement.{statement}
 use Rattle.sorting.proofs.distinct.keys_differ.Tie as tie
 

@@ -7,7 +7,7 @@ use lib.ListN.{length, length-take}
 use lib.Seq.{length-take-le}
 use Rattle.lists.specs.Lists.{pairwise}
 use Rattle.lists.proofs.Loops.{length-range}
-use Rattle.sorting.proofs.Crowding.{thinned-keyed}
+use Rattle.sorting.proofs.Collisions.{thinned-keyed}
 use Rattle.sorting.proofs.Groups.{within-range}
 use Rattle.sorting.proofs.KeyOrder.{keyed-range}
 use Rattle.soundness_unique.proofs.LifeOrder.{thinned-lent, lives-thinned}

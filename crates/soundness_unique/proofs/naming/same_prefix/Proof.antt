@@ -7,7 +7,7 @@ use borrow.Author.Tests.{eq-eqb, ne-eqb}
 use Rattle.lists.specs.Runs.{from, field}
 use Rattle.lists.proofs.Loops.{from-step, from-end}
 use Rattle.lists.proofs.Windows.{agree-first-pass, agree-first-fail, agree-none}
-use Rattle.sorting.specs.Crowded.{samePrefix}
+use Rattle.sorting.specs.Colliding.{samePrefix}
 use Rattle.sorting.specs.Keys.{sameWords}
 use Rattle.soundness_unique.proofs.naming.same_prefix.Statement.{statement}
 use Rattle.soundness_unique.proofs.naming.same_prefix.Tie as tie

@@ -5,10 +5,10 @@ use mathlib.Core.Path.{_≡_, refl, _∙_}
 use native.Mathlib.Omega.{arith}
 use lib.ListN.{length, take, length-set}
 use lib.Seq.{take-all}
-use Rattle.sorting.specs.Crowded.{Counted}
-use Rattle.sorting.proofs.Crowding.{counted-next, hash-in}
-use Rattle.sorting.proofs.crowded.count_hashes.Statement.{statement}
-use Rattle.sorting.proofs.crowded.count_hashes.Tie as tie
+use Rattle.sorting.specs.Colliding.{Counted}
+use Rattle.sorting.proofs.Collisions.{counted-next, hash-in}
+use Rattle.sorting.proofs.colliding.count_hashes.Statement.{statement}
+use Rattle.sorting.proofs.colliding.count_hashes.Tie as tie
 
 abbrev Inv-loop : tie.InvT-loop
 Inv-loop hashes counts₀ n i₀ counts i = (i ≤ length hashes) × (length counts ≡ length counts₀) × Counted (take i hashes) counts

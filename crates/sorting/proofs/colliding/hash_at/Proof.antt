@@ -4,10 +4,10 @@ use Prim.Native.Nat.{_-_, _≤_, _<_}
 use mathlib.Core.Path.{_≡_, refl, sym, _∙_}
 use native.Mathlib.Omega.{arith}
 use Rattle.lists.specs.Runs.{from, field}
-use Rattle.sorting.specs.Crowded.{modulus, hashLimit, hashFrom, hashAt}
-use Rattle.sorting.proofs.Crowding.{hash-next, hash-end}
-use Rattle.sorting.proofs.crowded.hash_at.Statement.{statement}
-use Rattle.sorting.proofs.crowded.hash_at.Tie as tie
+use Rattle.sorting.specs.Colliding.{modulus, hashLimit, hashFrom, hashAt}
+use Rattle.sorting.proofs.Collisions.{hash-next, hash-end}
+use Rattle.sorting.proofs.colliding.hash_at.Statement.{statement}
+use Rattle.sorting.proofs.colliding.hash_at.Tie as tie
 
 abbrev Inv-loop : tie.InvT-loop
 Inv-loop keys size used i second h₀ k₀ h k =

@@ -4,11 +4,11 @@ use Prim.Native.Nat.{_-_, _≤_}
 use mathlib.Core.Path.{_≡_, sym, _∙_}
 use native.Mathlib.Omega.{arith}
 use lib.ListN.{length, length-set}
-use Rattle.sorting.specs.Crowded.{hashAt}
+use Rattle.sorting.specs.Colliding.{hashAt}
 use Rattle.sorting.proofs.KeyOrder.{keyed-at}
-use Rattle.sorting.proofs.Crowding.{Hashed, hashed-start, hashed-next, hashed-end}
-use Rattle.sorting.proofs.crowded.hash_places.Statement.{statement}
-use Rattle.sorting.proofs.crowded.hash_places.Tie as tie
+use Rattle.sorting.proofs.Collisions.{Hashed, hashed-start, hashed-next, hashed-end}
+use Rattle.sorting.proofs.colliding.hash_places.Statement.{statement}
+use Rattle.sorting.proofs.colliding.hash_places.Tie as tie
 
 abbrev Inv-loop : tie.InvT-loop
 Inv-loop keys size used second w hashes₀ n i₀ hashes i =

@@ -5,7 +5,7 @@ ghost use Prim.Native.Nat.{ℕ, _+_, _*_, _%_, _≤_, _<_, min};
 ghost use lib.ListN.{length, take};
 ghost use Rattle.lists.specs.Lists.{filter};
 ghost use Rattle.sorting.specs.Keys.{Keyed};
-ghost use Rattle.sorting.specs.Crowded.{modulus, hashLimit, hashAt, Counted, crowded, Hashes, Thinned};
+ghost use Rattle.sorting.specs.Colliding.{modulus, hashLimit, hashAt, Counted, colliding, Hashes, Thinned};
 use runs::fields::field_at;
 
 // Two equal keys have one hash: places whose hash no other place has are left out, and on ordinary content few remain.
@@ -95,7 +95,7 @@ fn keep(hashes: &[usize], counts: &[u8], w: &mut [usize]) -> usize
     requires { ⌜ (length (now hashes) ≡ length (now w)) × Hashes (now hashes) (now counts) ⌝ }
     ensures { λ r. ⌜ (length (now (w .exit)) ≡ length (now (w .entry))) × (r ≤ length (now (w .entry)))
         × ((hash : ℕ → ℕ) → now (hashes .entry) ≡ map hash (now (w .entry))
-        → take r (now (w .exit)) ≡ filter (λ p. crowded (now (counts .entry)) (hash p)) (now (w .entry))) ⌝ }
+        → take r (now (w .exit)) ≡ filter (λ p. colliding (now (counts .entry)) (hash p)) (now (w .entry))) ⌝ }
 {
     let n = w.len();
     let mut i: usize = 0;
@@ -112,7 +112,7 @@ fn keep(hashes: &[usize], counts: &[u8], w: &mut [usize]) -> usize
 }
 
 // Of the places in w those whose hash another place has, moved to the front; returns how many they are. v is scratch.
-fn keep_crowded(
+fn keep_colliding(
     keys: &[u64],
     size: usize,
     used: usize,
@@ -140,6 +140,6 @@ pub fn thin(keys: &[u64], size: usize, used: usize, w: &mut [usize], v: &mut [us
     if n <= FEW_PLACES {
         return n;
     }
-    let r = keep_crowded(keys, size, used, false, w, v);
-    keep_crowded(keys, size, used, true, &mut w[..r], &mut v[..r])
+    let r = keep_colliding(keys, size, used, false, w, v);
+    keep_colliding(keys, size, used, true, &mut w[..r], &mut v[..r])
 }

@@ -3,9 +3,9 @@ use borrow.Author.Needs.{needs}
 use Prim.Native.Nat.{_-_, _≤_}
 use native.Mathlib.Omega.{arith}
 use lib.ListN.{length}
-use Rattle.sorting.proofs.Crowding.{hash-in, Moved, moved-start, moved-kept, moved-left, moved-end}
-use Rattle.sorting.proofs.crowded.keep.Statement.{statement}
-use Rattle.sorting.proofs.crowded.keep.Tie as tie
+use Rattle.sorting.proofs.Collisions.{hash-in, Moved, moved-start, moved-kept, moved-left, moved-end}
+use Rattle.sorting.proofs.colliding.keep.Statement.{statement}
+use Rattle.sorting.proofs.colliding.keep.Tie as tie
 
 abbrev Inv-loop : tie.InvT-loop
 Inv-loop hashes counts w₀ n i₀ k₀ w i k = (i ≤ length w₀) × Moved hashes counts w₀ w i k

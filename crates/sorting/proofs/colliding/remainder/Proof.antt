@@ -2,9 +2,9 @@
 use mathlib.Core.Path.{sym, ap}
 use Prim.Native.Nat.{_%_}
 use native.Mathlib.Omega.{arith}
-use Rattle.sorting.specs.Crowded.{modulus}
-use Rattle.sorting.proofs.crowded.remainder.Statement.{statement}
-use Rattle.sorting.proofs.crowded.remainder.Tie as tie
+use Rattle.sorting.specs.Colliding.{modulus}
+use Rattle.sorting.proofs.colliding.remainder.Statement.{statement}
+use Rattle.sorting.proofs.colliding.remainder.Tie as tie
 
 returns : tie.Need-returns
 returns c = (ap (λ s. c .before .args .x % modulus s) (sym (c .if1 .taken)), omega arith)

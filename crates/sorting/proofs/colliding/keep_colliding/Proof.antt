@@ -1,12 +1,12 @@
--- `keep_crowded` meets its contract: each place has its hash, each hash its count, and two places that agree have one hash.
+-- `keep_colliding` meets its contract: each place has its hash, each hash its count, and two places that agree have one hash.
 use borrow.Author.Needs.{needs}
 use Prim.Native.Nat.{ℕ}
 use mathlib.Core.Path.{ap, _∙_}
 use lib.ListN.{length, replicate, length-map, length-replicate}
-use Rattle.sorting.specs.Crowded.{hashLimit}
-use Rattle.sorting.proofs.Crowding.{hashes-below, counted-none, thinned}
-use Rattle.sorting.proofs.crowded.keep_crowded.Statement.{statement}
-use Rattle.sorting.proofs.crowded.keep_crowded.Tie as tie
+use Rattle.sorting.specs.Colliding.{hashLimit}
+use Rattle.sorting.proofs.Collisions.{hashes-below, counted-none, thinned}
+use Rattle.sorting.proofs.colliding.keep_colliding.Statement.{statement}
+use Rattle.sorting.proofs.colliding.keep_colliding.Tie as tie
 
 count-hashes-requires : tie.Need-count-hashes-requires
 count-hashes-requires c κs =
@@ -31,7 +31,7 @@ returns c =
     let e = k .keep .ensures in
     (e .0, e .1, thinned (a .second) (a .used) (a .size) (a .keys .now) (a .w .now) (h .hash-places .ensures) (n .count-hashes .ensures .1) (e .2 _ (h .hash-places .ensures)))
 
-pub keep-crowded-spec : {M : Type 1} → statement M
-keep-crowded-spec =
+pub keep-colliding-spec : {M : Type 1} → statement M
+keep-colliding-spec =
     tie.close
     (tie.spec (λ c κs. search needs) (λ c. search needs) count-hashes-requires (λ c. search needs) keep-requires (λ c. search needs) (λ c. search needs) returns)

@@ -17,7 +17,7 @@ use Rattle.lists.proofs.Counts.{count-append, count-pos, count-map}
 use Rattle.lists.proofs.Loops.{from-step, from-end}
 use Rattle.lists.proofs.Selections.{map-append}
 use Rattle.sorting.specs.Keys.{sameKey, Keyed}
-use Rattle.sorting.specs.Crowded.{prefixAt, samePrefix, modulus, hashLimit, hashFrom, hashAt, Counted, crowded, Hashes, Thinned}
+use Rattle.sorting.specs.Colliding.{prefixAt, samePrefix, modulus, hashLimit, hashFrom, hashAt, Counted, colliding, Hashes, Thinned}
 use Rattle.sorting.proofs.KeyOrder.{same-words}
 
 -- ---- hashes
@@ -88,13 +88,13 @@ counted-next hashes counts i {c} l g e p = record {
 
 -- ---- places moved to the front
 
--- of the places below i those whose hash is crowded are the first k
+-- of the places below i those whose hash is colliding are the first k
 pub record Moved (hashes counts old w : List ℕ) (i k : ℕ) : Type 0 where
   pub most : k ≤ i
   pub long : length w ≡ length old
   pub ahead : drop i w ≡ drop i old
   pub front : (hash : ℕ → ℕ) → hashes ≡ map hash old
-      → filter (λ p. crowded counts (hash p)) old ≡ take k w ++ filter (λ p. crowded counts (hash p)) (drop i old)
+      → filter (λ p. colliding counts (hash p)) old ≡ take k w ++ filter (λ p. colliding counts (hash p)) (drop i old)
 
 pub moved-start : (hashes counts w : List ℕ) → Moved hashes counts w w 0 0
 moved-start hashes counts w = record { most = omega arith; long = refl; ahead = refl; front = λ hash e. refl }
@@ -123,7 +123,7 @@ module _ {hashes counts old w : List ℕ} {i k : ℕ} (m : Moved hashes counts o
     long = rw length-set (m .long);
     ahead = ahead-next (getD w i 0);
     front = λ hash e.
-        let b : crowded counts (hash (getD old i 0)) ≡ true = rw (← hash-of hash old i l e) (lt-ltb 1 (getD counts (getD hashes i 0) 0) h) in
+        let b : colliding counts (hash (getD old i 0)) ≡ true = rw (← hash-of hash old i l e) (lt-ltb 1 (getD counts (getD hashes i 0) 0) h) in
         m .front hash e ∙ rw (drop-cons old i 0 l, b, add-one k, take-suc-set w k (getD w i 0) (omega (arith, m .most, m .long)), append-assoc, heads, add-one i) refl;
   }
 
@@ -134,12 +134,12 @@ module _ {hashes counts old w : List ℕ} {i k : ℕ} (m : Moved hashes counts o
     long = rw length-set (m .long);
     ahead = ahead-next (getD w i 0);
     front = λ hash e.
-        let b : crowded counts (hash (getD old i 0)) ≡ false = rw (← hash-of hash old i l e) (le-ltb 1 (getD counts (getD hashes i 0) 0) h) in
+        let b : colliding counts (hash (getD old i 0)) ≡ false = rw (← hash-of hash old i l e) (le-ltb 1 (getD counts (getD hashes i 0) 0) h) in
         m .front hash e ∙ rw (drop-cons old i 0 l, b, take-set-le k w k (getD w i 0) (omega arith), add-one i) refl;
   }
 
 pub moved-end : {hashes counts old w : List ℕ} {i k : ℕ} → Moved hashes counts old w i k → length old ≤ i → (hash : ℕ → ℕ) → hashes ≡ map hash old
-    → take k w ≡ filter (λ p. crowded counts (hash p)) old
+    → take k w ≡ filter (λ p. colliding counts (hash p)) old
 unfolding filter
 moved-end {old = old} {w = w} {k = k} m l hash e = sym (m .front hash e ∙ rw (drop-of-length-le old l) (append-nil (take k w)))
 
@@ -167,12 +167,12 @@ module _ (hash : ℕ → ℕ) (q : ℕ → Bool) (R : ℕ → ℕ → Bool) (apa
       if (q (hash x)) (λ b. rw b (ap₂ _&&_ (kept-one x xs b) t)) (λ b. rw (b, left-one x xs (f (hash x)) b) t)
 
 pub thinned : (second : Bool) (used size : ℕ) (run w : List ℕ) {hashes counts new : List ℕ} → hashes ≡ map (hashAt second used size run) w → Counted hashes counts
-    → new ≡ filter (λ p. crowded counts (hashAt second used size run p)) w → Thinned size used run w new
+    → new ≡ filter (λ p. colliding counts (hashAt second used size run p)) w → Thinned size used run w new
 thinned second used size run w {hashes} {counts} e p f = record {
-  decided = λ R s. rw f (kept-pairs hash (crowded counts) R
+  decided = λ R s. rw f (kept-pairs hash (colliding counts) R
       (λ i j d. s i j (if (samePrefix used size run i j) (λ b. absurd (d (ap (hashFrom (modulus second) 0) (same-words _ _ b)))) (λ b. b))) w
       (λ h l. lt-ltb 1 (getD counts h 0) (omega (arith, p .counted h, count-of h))));
-  within = λ P h. rw f (in-all P _ (λ x m. all-in P w h (in-filter-of (λ p. crowded counts (hash p)) w m .0)));
+  within = λ P h. rw f (in-all P _ (λ x m. all-in P w h (in-filter-of (λ p. colliding counts (hash p)) w m .0)));
 }
   where
     hash : ℕ → ℕ

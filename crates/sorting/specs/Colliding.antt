@@ -36,8 +36,8 @@ pub record Counted (hashes counts : List ℕ) : Type 0 where
   pub counted : (h : ℕ) → getD counts h 0 ≡ min 2 (count (eqb h) hashes)
 
 -- a hash that occurs twice or more
-abbrev pub crowded : List ℕ → ℕ → Bool
-crowded counts h = ltb 1 (getD counts h 0)
+abbrev pub colliding : List ℕ → ℕ → Bool
+colliding counts h = ltb 1 (getD counts h 0)
 
 -- each hash has a count
 pub record Hashes (hashes counts : List ℕ) : Type 0 where
