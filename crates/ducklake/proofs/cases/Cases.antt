@@ -1,6 +1,8 @@
 -- Every case of the lists is true: their calls, played on lent runs, give and leave what the lines say, by computation.
 use mathlib.Core.Path.{_≡_, refl}
-use mathlib.Core.List.{[]}
+use mathlib.Core.List.{[], _∷_}
+use Rattle.ducklake.specs.Refusals.{accepted, notSound, noRoom, shortAnswerArea, numberTooLarge, notRetained, notLive, noSnapshotByThen, timeFalls, badName, nameTaken, schemaNotEmpty, badColumns, badRecordCount, uuidTaken, badStatistics, badPositions, alreadyDeleted, badExpiryList, expiresLatest}
+use Rattle.ducklake.specs.Kinds.{createdSchema, createdTable, insertedIntoTable, deletedFromTable, droppedSchema, droppedTable}
 use Rattle.ducklake.proofs.cases.Sessions.{passes}
 use Rattle.ducklake.proofs.cases.Lines.{State, start, after, wrong}
 use Rattle.ducklake.proofs.cases.Base.{base}
@@ -13,6 +15,16 @@ use Rattle.ducklake.proofs.cases.Drops.{drops}
 use Rattle.ducklake.proofs.cases.Maintenance.{maintenance}
 use Rattle.ducklake.proofs.cases.Sound.{soundness}
 use Rattle.ducklake.proofs.cases.SoundFields.{soundFields}
+
+-- The cases name refusals and kinds; these are the numbers that document 01 gives them.
+refusal-numbers : (accepted ∷ notSound ∷ noRoom ∷ shortAnswerArea ∷ numberTooLarge ∷ notRetained ∷ notLive ∷ noSnapshotByThen ∷ timeFalls ∷ badName
+    ∷ nameTaken ∷ schemaNotEmpty ∷ badColumns ∷ badRecordCount ∷ uuidTaken ∷ badStatistics ∷ badPositions ∷ alreadyDeleted ∷ badExpiryList ∷ expiresLatest ∷ [])
+    ≡ (0 ∷ 1 ∷ 2 ∷ 3 ∷ 4 ∷ 5 ∷ 6 ∷ 7 ∷ 8 ∷ 9 ∷ 10 ∷ 11 ∷ 12 ∷ 13 ∷ 14 ∷ 15 ∷ 16 ∷ 17 ∷ 18 ∷ 19 ∷ [])
+refusal-numbers = refl
+
+kind-numbers : (createdSchema ∷ createdTable ∷ insertedIntoTable ∷ deletedFromTable ∷ droppedSchema ∷ droppedTable ∷ [])
+    ≡ (1 ∷ 2 ∷ 3 ∷ 4 ∷ 6 ∷ 7 ∷ [])
+kind-numbers = refl
 
 based : State
 based = after start base
