@@ -4,7 +4,8 @@ mod session;
 ghost use Rattle.paths.specs.Text.{Written};
 ghost use Rattle.diary_session.specs.Room.{Room};
 ghost use Rattle.diary_session.specs.Program.{diaryText};
-use crate::session::play_session;
+use crate::session::begin_session;
+use crate::session::end_session;
 use diary_listing::write_listing;
 use layout::number::NAME_SIZE;
 use layout::outcome::Counts;
@@ -56,7 +57,7 @@ fn write_diary(text: &mut [u8]) -> usize
     let mut statistics = [0u64; ROOM * StatisticsRecord::SIZE];
     let mut scheduled = [0u64; ROOM * ScheduledRecord::SIZE];
     let mut area = [0u64; ROOM];
-    let played = play_session(
+    let begun = begin_session(
         &mut snapshots,
         &mut schemas,
         &mut schema_names,
@@ -72,6 +73,22 @@ fn write_diary(text: &mut [u8]) -> usize
         NO_COUNTS,
         &mut area,
     );
+    let ended = end_session(
+        &mut snapshots,
+        &mut schemas,
+        &mut schema_names,
+        &mut tables,
+        &mut table_names,
+        &mut columns,
+        &mut column_names,
+        &mut data_files,
+        &mut delete_files,
+        &mut positions,
+        &mut statistics,
+        &mut scheduled,
+        begun.counts,
+        &mut area,
+    );
     write_listing(
         &snapshots,
         &schemas,
@@ -85,7 +102,7 @@ fn write_diary(text: &mut [u8]) -> usize
         &positions,
         &statistics,
         &scheduled,
-        played.counts,
+        ended.counts,
         &mut area,
         text,
     )

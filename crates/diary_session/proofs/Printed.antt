@@ -18,7 +18,7 @@ use Rattle.ducklake.proofs.cases.Sessions.{passes}
 use Rattle.paths.specs.Text.{Written}
 use Rattle.paths.specs.Lengths.{pathLength}
 use Rattle.paths.proofs.Pieces.{written-length}
-use Rattle.diary_session.specs.Session.{played}
+use Rattle.diary_session.specs.Session.{begun, ended, played}
 use Rattle.diary_session.specs.Listing.{recordOf, pathOf, deletePathOf, line, lines, listing}
 use Rattle.diary_session.specs.Room.{Room}
 use Rattle.diary_session.specs.Program.{zeros, zeroTables, diaryText}
@@ -39,7 +39,7 @@ threeLines =
     ++ ducklake 2 ++ (44 ∷ []) ++ (10 ∷ [])
 
 computed : agree eqb diaryText threeLines ≡ true
-unfolding diaryText listing lines line deletePathOf pathOf recordOf played passes path uuidText ducklake threeLines
+unfolding diaryText listing lines line deletePathOf pathOf recordOf begun ended played passes path uuidText ducklake threeLines
 computed = refl
 
 -- lists whose numbers are equal, place by place, are equal

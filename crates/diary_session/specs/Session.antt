@@ -76,6 +76,13 @@ abbrev pub afterAll : Result → List Call → Result
 afterAll r [] = r
 afterAll r (k ∷ ks) = afterAll (after r k) ks
 
+-- its first three calls, and the other three on what those left
+unfoldable pub begun : Words → Counts → List ℕ → Result
+begun w c area = afterAll (performFresh freshTime w c area) (createDiary ∷ insertThree ∷ [])
+
+unfoldable pub ended : Words → Counts → List ℕ → Result
+ended w c area = afterAll (perform insertTwo w c area) (deleteOne ∷ deleteZero ∷ [])
+
 -- "plays this up to time 150": what the last call gives and leaves
 unfoldable pub played : Words → Counts → List ℕ → Result
-played w c area = afterAll (performFresh freshTime w c area) (createDiary ∷ insertThree ∷ insertTwo ∷ deleteOne ∷ deleteZero ∷ [])
+played w c area = let r : Result = begun w c area in ended (r .words) (r .counts) (r .area)

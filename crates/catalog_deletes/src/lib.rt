@@ -1,2 +1,0 @@
-// The public call that deletes rows, as a commit.
-pub mod delete;

@@ -1,2 +1,0 @@
-// The public call that expires snapshots.
-pub mod expire;

@@ -1,0 +1,3 @@
+// The public calls that insert and delete rows, as commits.
+pub mod delete;
+pub mod insert;
