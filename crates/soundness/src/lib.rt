@@ -3,4 +3,3 @@ pub mod check;
 pub mod checked;
 pub mod line;
 pub mod positions;
-pub mod stages;

@@ -1,7 +1,7 @@
 -- `check` meets its contract: the tables are sound or not, and have their room.
 use borrow.Author.Needs.{needs}
 use Rattle.refusals.proofs.Laws.{checked-as}
-use Rattle.soundness.proofs.StageLaws.{sound-is}
+use Rattle.soundness.proofs.Lines.{sound-is}
 use Rattle.soundness.proofs.checked.check.Statement.{statement}
 use Rattle.soundness.proofs.checked.check.Tie as tie
 
