@@ -12,9 +12,9 @@ use Rattle.lists.specs.declared.Found.{Found}
 use Rattle.lists.specs.declared.Found.the-variants.{At, Nothing}
 use Rattle.lists.specs.Lists.{range, filter}
 use Rattle.lists.specs.Runs.{from, overwrite}
-use Rattle.lists.proofs.Runs.{record-fits}
+use Rattle.lists.proofs.Runs.{record-fits, overwrite-length}
 use Rattle.lists.proofs.Places.{all-at}
-use Rattle.lists.proofs.Loops.{from-all, filter-pass, filter-fail, filter-end}
+use Rattle.lists.proofs.Loops.{from-all, filled-taken, filter-pass, filter-fail, filter-end}
 use Rattle.lists.proofs.Writes.{laid, laid-fail, laid-room, laid-pass, laid-done}
 use Rattle.layout.specs.declared.outcome.Counts.{Counts}
 use Rattle.layout.specs.Fields.{dataFileSize}
@@ -71,16 +71,16 @@ module _ {files : List ℕ} {n : ℕ} {run positions : List ℕ} {m s : ℕ} {pl
           };
         }
 
-pub rows-located : {files run positions : List ℕ} {c : Counts} {s : ℕ} {places starts : List ℕ} → RowsReadable files run positions c s
-    → DeleteFilesFound files (c .«data_files») run (c .«delete_files») s places → take (c .«delete_files») starts ≡ map (positionsBefore run) (range 0 (c .«delete_files»))
+pub rows-located : {files run positions : List ℕ} {c : Counts} {s : ℕ} {places starts : List ℕ} (zeros : List ℕ) → RowsReadable files run positions c s
+    → DeleteFilesFound files (c .«data_files») run (c .«delete_files») s places → starts ≡ overwrite zeros 0 (map (positionsBefore run) (range 0 (c .«delete_files»)))
     → RowsLocated files (c .«data_files») run positions (c .«delete_files») s places starts
-rows-located p f l = record {
+rows-located zeros p f e = record {
   lent = p .byId .lent;
   few = p .few;
   ranges = p .ranges;
   deletes = p .deletes;
   found = f;
-  located = record { held = p .held; located = l };
+  located = record { held = p .held; located = filled-taken _ _ zeros e };
 }
 
 -- a loop that adds up how many words g makes of each element that passes
@@ -105,13 +105,16 @@ module _ {A : Type 0} (f : ℕ → A) (p : A → Bool) (n : ℕ) (g : A → List
   unfolding summed flatMap
   summed-end t i h = rw (filter-end f p i n h, add-zero) refl
 
--- a part that was filled whole
-pub part-filled : (w : List ℕ) (k e : ℕ) {new : List ℕ} (rows : List ℕ) → e ≡ k + length rows → new ≡ rows → putMid k (e - k) w new ≡ overwrite w k rows
-unfolding overwrite
-part-filled w k e rows q r = let l : e - k ≡ length rows = omega arith in rw (r, l, drop-drop (length rows) k w) refl
+-- the c words from k on: as long as the rows to be written there, and filled whole by them
+pub part-length : (w : List ℕ) (k : ℕ) {c l : ℕ} → c ≡ l → k + c ≤ length w → length (take (k + c - k) (drop k w)) ≡ l
+part-length w k q h = simp (length-take, length-drop) (omega arith)
 
-pub part-length : (w : List ℕ) (k e : ℕ) (rows : List ℕ) → e ≡ k + length rows → e ≤ length w → length (take (e - k) (drop k w)) ≡ length rows
-part-length w k e rows q h = simp (length-take, length-drop) (omega arith)
+pub part-filled : (w : List ℕ) (k : ℕ) {c : ℕ} {new rows : List ℕ} → c ≡ length rows → new ≡ rows → putMid k (k + c - k) w new ≡ overwrite w k rows
+unfolding overwrite
+part-filled w k {c} {new} {rows} q r = let l : k + c - k ≡ length rows = omega arith in rw (r, l, drop-drop (length rows) k w) refl
+
+pub part-kept : (w : List ℕ) (k : ℕ) (rows : List ℕ) {c : ℕ} {v : List ℕ} → c ≡ length rows → k + c ≤ length w → v ≡ overwrite w k rows → length v ≡ length w
+part-kept w k rows q h e = ap length e ∙ overwrite-length w k rows (omega arith)
 
 module _ (files run positions places starts : List ℕ) (n table s : ℕ) where
   abbrev rows : ℕ → Versioned DataFile → List ℕ

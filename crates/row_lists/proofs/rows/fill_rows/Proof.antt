@@ -18,45 +18,45 @@ loop-holds : tie.Need-loop-holds Inv-loop μ-loop
 loop-holds c = let t = c .before .before in (omega arith, refl, filling-start (t .args .part .now) (t .pre .1))
 
 add-row : tie.Need-add-row Inv-loop μ-loop
-add-row c = let p = c .before .before .before .before .before .before .pre .0 in omega (arith, p .startWithin, p .countWithin)
+add-row c =
+    let start : tie.Start Inv-loop μ-loop = search in
+    omega (arith, start .pre .0 .startWithin, start .pre .0 .countWithin)
 
 add-j : tie.Need-add-j Inv-loop μ-loop
-add-j c = omega (arith, c .before .before .before .before .loop .inv .2 .passed .within)
+add-j c =
+    let head : tie.At-loop Inv-loop μ-loop = search in
+    omega (arith, head .loop .inv .2 .passed .within)
 
 loop-again : tie.Need-loop-again Inv-loop μ-loop
 loop-again c =
-    let s = c .before .before in
-    let h = s .before .before .loop in
-    let t = s .before .before .before .before .before in
-    (omega arith, h .inv .1, filling-gone (t .pre .0 .ascending) (h .inv .2) (s .before .loop-test .taken) (s .is-at .ensures) (c .if1 .taken))
+    let next : tie.After-is-at Inv-loop μ-loop = search in
+    let turn : tie.In-loop Inv-loop μ-loop = search in
+    let start : tie.Start Inv-loop μ-loop = search in
+    let l = turn .before .loop .inv in
+    (omega arith, l .1, filling-gone (start .pre .0 .ascending) (l .2) (turn .loop-test .taken) (next .is-at .ensures) (c .if1 .taken))
 
-mul-part : tie.Need-mul-part Inv-loop μ-loop
-mul-part c =
-    let s = c .before .before in
-    let h = s .before .before .loop in
-    let t = s .before .before .before .before .before in
-    omega (arith, h .inv .1, filling-room (t .pre .0 .ascending) (h .inv .2) (s .before .loop-test .taken) (s .is-at .ensures) (c .if1 .left), t .good .1 .1 .1 .0)
+-- a position that is kept has room
+has-room : tie.Need-slice-write-part Inv-loop μ-loop
+has-room c =
+    let next : tie.After-is-at Inv-loop μ-loop = search in
+    let turn : tie.In-loop Inv-loop μ-loop = search in
+    let start : tie.Start Inv-loop μ-loop = search in
+    filling-room (start .pre .0 .ascending) (turn .before .loop .inv .2) (turn .loop-test .taken) (next .is-at .ensures) (c .if1 .left)
 
-slice-write-part : tie.Need-slice-write-part Inv-loop μ-loop
-slice-write-part c =
-    let s = c .before .before in
-    let h = s .before .before .loop in
-    let t = s .before .before .before .before .before in
-    filling-room (t .pre .0 .ascending) (h .inv .2) (s .before .loop-test .taken) (s .is-at .ensures) (c .if1 .left)
-
-add-k : tie.Need-add-k Inv-loop μ-loop
-add-k c =
-    let s = c .before .before in
-    let h = s .before .before .loop in
-    let t = s .before .before .before .before .before in
-    omega (arith, h .inv .1, filling-room (t .pre .0 .ascending) (h .inv .2) (s .before .loop-test .taken) (s .is-at .ensures) (c .if1 .left), t .good .1 .1 .1 .0)
+-- in a part that is as long as a run can be
+part-fits : tie.Need-mul-part Inv-loop μ-loop
+part-fits c =
+    let head : tie.At-loop Inv-loop μ-loop = search in
+    let start : tie.Start Inv-loop μ-loop = search in
+    omega (arith, head .loop .inv .1, has-room c, start .good .1 .1 .1 .0)
 
 loop-again-2 : tie.Need-loop-again-2 Inv-loop μ-loop
 loop-again-2 c =
-    let s = c .before .before in
-    let h = s .before .before .loop in
-    let t = s .before .before .before .before .before in
-    (omega arith, simp length-set (h .inv .1), filling-kept (t .pre .0 .ascending) (h .inv .2) (s .before .loop-test .taken) (s .is-at .ensures) (c .if1 .left) refl)
+    let next : tie.After-is-at Inv-loop μ-loop = search in
+    let turn : tie.In-loop Inv-loop μ-loop = search in
+    let start : tie.Start Inv-loop μ-loop = search in
+    let l = turn .before .loop .inv in
+    (omega arith, simp length-set (l .1), filling-kept (start .pre .0 .ascending) (l .2) (turn .loop-test .taken) (next .is-at .ensures) (c .if1 .left) refl)
 
 same-length : tie.Need-same-length Inv-loop μ-loop
 same-length c = c .before .loop .inv .1
@@ -67,5 +67,5 @@ returns c = let h = c .before .loop in filling-end (c .before .before .before .b
 pub fill-rows-spec : {M : Type 1} → statement M
 fill-rows-spec =
     tie.close
-    (tie.spec Inv-loop μ-loop loop-holds (λ c κs. search needs) add-row (λ c. search needs) add-j (λ c. search needs) loop-again mul-part slice-write-part add-k (λ c. search needs) loop-again-2
+    (tie.spec Inv-loop μ-loop loop-holds (λ c κs. search needs) add-row (λ c. search needs) add-j (λ c. search needs) loop-again part-fits has-room (λ c. omega (arith, part-fits c)) (λ c. search needs) loop-again-2
     same-length returns)

@@ -7,14 +7,19 @@ use Rattle.row_lists.proofs.rows.write_file_rows.Tie as tie
 
 fill-rows-requires : tie.Need-fill-rows-requires
 fill-rows-requires c κs =
-    let s = c .before in
-    let p = s .before .before .before .before .before .before .before .before .pre in
-    fit-read (ap (λ r. r .0) (s .before .before .data-file-row-id-start .ensures)) (s .before .data-file-record-count .ensures) (s .positions-deleted .ensures) (p .0 .fit) (p .1)
+    let deleted : tie.After-positions-deleted = search in
+    let count : tie.After-data-file-record-count = search in
+    let first : tie.After-data-file-row-id-start = search in
+    let start : tie.Start = search in
+    fit-read (ap (λ r. r .0) (first .data-file-row-id-start .ensures)) (count .data-file-record-count .ensures) (deleted .positions-deleted .ensures) (start .pre .0 .fit) (start .pre .1)
 
 returns : tie.Need-returns
 returns c =
-    let s = c .before .before .before .before in
-    c .before .before .fill-rows .ensures ∙ rows-read (ap (λ r. r .0) (s .before .before .data-file-row-id-start .ensures)) (s .before .data-file-record-count .ensures) (s .positions-deleted .ensures)
+    let filled : tie.After-fill-rows = search in
+    let deleted : tie.After-positions-deleted = search in
+    let count : tie.After-data-file-record-count = search in
+    let first : tie.After-data-file-row-id-start = search in
+    filled .fill-rows .ensures ∙ rows-read (ap (λ r. r .0) (first .data-file-row-id-start .ensures)) (count .data-file-record-count .ensures) (deleted .positions-deleted .ensures)
 
 pub write-file-rows-spec : {M : Type 1} → statement M
 write-file-rows-spec =
