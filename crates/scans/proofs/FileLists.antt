@@ -114,28 +114,42 @@ module _ (files run statistics : List ℕ) (n m u table s : ℕ) (q : Filter) wh
   read-is : (positions : List ℕ) → flatMap (words positions) (filter test (dataFilesIn files n)) ≡ flatMap (words positions) read
   read-is positions = ap (flatMap (words positions)) (sym (read-both q (statisticsIn statistics u) (dataFilesIn files n) s table))
 
-  pub list-length : (positions : List ℕ) → length (flatMap (words positions) read) ≡ listedSize * length read
+  list-length : (positions : List ℕ) → length (flatMap (words positions) read) ≡ listedSize * length read
   list-length positions = flatMap-size (words positions) listedSize (length-listed (deleteFilesIn run positions m) s) read
 
-  abbrev pub Listing : List ℕ → List ℕ → ℕ → ℕ → Type 0
-  Listing area w k i = (positions : List ℕ) → laid (dataFileAt files) test n (words positions) area 0 0 ≡ laid (dataFileAt files) test n (words positions) w k i
+  pub list-counted : (positions : List ℕ) {r : ℕ} → r ≡ length read → listedSize * r ≡ length (flatMap (words positions) read)
+  list-counted positions e = ap (λ r. listedSize * r) e ∙ sym (list-length positions)
 
-  module _ (area w : List ℕ) (k i : ℕ) (o : listedSize * length read ≤ length w) (e : Listing area w k i) (h : i < n) {b : Bool} (r : b ≡ test (dataFileAt files i)) where
-    room : (positions : List ℕ) → length (flatMap (words positions) (filter test (dataFilesIn files n))) ≤ length w
-    room positions = omega (arith, ap length (read-is positions), list-length positions)
+  -- with k words laid in w, and the files from i on to come, it comes to what it comes to from the start
+  pub record Listing (area w : List ℕ) (k i : ℕ) : Type 0 where
+    pub long : length w ≡ length area
+    pub room : listedSize * length read ≤ length area
+    pub same : (positions : List ℕ) → laid (dataFileAt files) test n (words positions) area 0 0 ≡ laid (dataFileAt files) test n (words positions) w k i
+
+  module _ {area w : List ℕ} {k i : ℕ} (L : Listing area w k i) (h : i < n) {b : Bool} (r : b ≡ test (dataFileAt files i)) where
+    fits : (positions : List ℕ) → length (flatMap (words positions) (filter test (dataFilesIn files n))) ≤ length w
+    fits positions = omega (arith, ap length (read-is positions), list-length positions)
 
     pub listing-room : b ≡ true → k + listedSize ≤ length w
     listing-room t =
-        omega (arith, laid-room (dataFileAt files) test n (words []) area w k i (length w) (room []) (e []) refl h (sym r ∙ t), length-listed (deleteFilesIn run [] m) s (dataFileAt files i))
+        omega (arith, laid-room (dataFileAt files) test n (words []) area w k i (length w) (fits []) (L .same []) refl h (sym r ∙ t), length-listed (deleteFilesIn run [] m) s (dataFileAt files i))
 
-    pub listing-pass : {v : List ℕ} {new : List ℕ} → b ≡ true → v ≡ overwrite w k new → ((positions : List ℕ) → new ≡ words positions (dataFileAt files i)) → Listing area v (k + listedSize) (i + 1)
-    listing-pass {v} t l g positions =
-        laid-pass (dataFileAt files) test n (words positions) area w v k i (room positions) (e positions) refl h (sym r ∙ t)
-        (sym (length-listed (deleteFilesIn run positions m) s (dataFileAt files i))) (l ∙ ap (overwrite w k) (g positions))
+    pub listing-pass : {v : List ℕ} (new : List ℕ) → b ≡ true → length v ≡ length w → v ≡ overwrite w k new → ((positions : List ℕ) → new ≡ words positions (dataFileAt files i))
+        → Listing area v (k + listedSize) (i + 1)
+    listing-pass {v} new t l e g = record {
+      long = l ∙ L .long;
+      room = L .room;
+      same = λ positions. laid-pass (dataFileAt files) test n (words positions) area w v k i (fits positions) (L .same positions) refl h (sym r ∙ t)
+          (sym (length-listed (deleteFilesIn run positions m) s (dataFileAt files i))) (e ∙ ap (overwrite w k) (g positions));
+    }
 
     pub listing-fail : b ≡ false → Listing area w k (i + 1)
-    listing-fail t positions = e positions ∙ laid-fail (dataFileAt files) test n (words positions) w k i refl h (sym r ∙ t)
+    listing-fail t = record {
+      long = L .long;
+      room = L .room;
+      same = λ positions. L .same positions ∙ laid-fail (dataFileAt files) test n (words positions) w k i refl h (sym r ∙ t);
+    }
 
-  pub listing-end : (area w : List ℕ) (k i : ℕ) → Listing area w k i → n ≤ i → (positions : List ℕ) → w ≡ overwrite area 0 (flatMap (words positions) read)
-  listing-end area w k i e h positions =
-      laid-done (dataFileAt files) test n (words positions) area w k i (e positions) h .1 ∙ ap (overwrite area 0) (read-is positions)
+  pub listing-end : {area w : List ℕ} {k i : ℕ} → Listing area w k i → n ≤ i → (positions : List ℕ) → w ≡ overwrite area 0 (flatMap (words positions) read)
+  listing-end {area} {w} {k} {i} L h positions =
+      laid-done (dataFileAt files) test n (words positions) area w k i (L .same positions) h .1 ∙ ap (overwrite area 0) (read-is positions)

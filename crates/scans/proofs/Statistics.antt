@@ -43,14 +43,15 @@ any-block f key k n a e T q =
 abbrev pub admitted : ℕ → ℤ → Statistics → Bool
 admitted column scalar x = eqb (x .column) column && admits scalar x
 
-pub kept-block : (run : List ℕ) (n column : ℕ) (scalar : ℤ) (f : Versioned DataFile) {file a e : ℕ} → f .id ≡ file
+-- the filter's test, with the scalar as a word tells it, over the data file's own statistics
+pub kept-block : (run : List ℕ) (n column : ℕ) {word scalar : ℤ} → word ≡ scalar → (f : Versioned DataFile) {file a e : ℕ} → f .id ≡ file
     → Together (field statisticsSize statisticsDataFileWord run) n file a e
-    → kept (statisticsIn run n) column scalar f ≡ any (admitted column scalar) (from (statisticsAt run) a e)
+    → kept (statisticsIn run n) column scalar f ≡ any (admitted column word) (from (statisticsAt run) a e)
 unfolding kept field
-kept-block run n column scalar f {file} {a} {e} h T =
-    rw h
-    (any-ext _ (λ x. eqb (x .dataFile) file && admitted column scalar x) (statisticsIn run n) (λ x m. and-assoc (eqb (x .dataFile) file) (eqb (x .column) column) (admits scalar x))
-    ∙ any-block (statisticsAt run) (λ x. x .dataFile) file n a e T (admitted column scalar))
+kept-block run n column {word} r f {file} {a} {e} h T =
+    rw (← r, h)
+    (any-ext _ (λ x. eqb (x .dataFile) file && admitted column word x) (statisticsIn run n) (λ x m. and-assoc (eqb (x .dataFile) file) (eqb (x .column) column) (admits word x))
+    ∙ any-block (statisticsAt run) (λ x. x .dataFile) file n a e T (admitted column word))
 
 -- as the bounds and the scalar were read
 pub admits-is : (x : StatisticsRecord) {l h s t : ℤ} → l ≡ signed (x .min) → h ≡ signed (x .max) → s ≡ t

@@ -22,36 +22,35 @@ loop-holds c =
 
 loop-again : tie.Need-loop-again Inv-loop μ-loop
 loop-again c =
-    let s = c .before .before .before .before in
-    let h = s .before .before .before .before .before .loop in
-    let t = s .before .before .before .before .before .before .before .before .before in
-    let a = t .args in
-    let k = c .before .before .set-at-data-file .kept .1 .1 .1 .0 in (
+    let set : tie.After-set-at-data-file Inv-loop μ-loop = search in
+    let live : tie.Then1 Inv-loop μ-loop = search in
+    let file : tie.After-delete-file-data-file Inv-loop μ-loop = search in
+    let head : tie.At-loop Inv-loop μ-loop = search in
+    let start : tie.Start Inv-loop μ-loop = search in
+    let h = head .loop in (
       omega arith,
-      k ∙ h .inv .1,
-      found-live (a .data-files .now) (a .n) (a .delete-files .now) (a .m) (a .s .0) (h .places) (h .j) (h .j - 1) (omega arith) (omega arith)
-          (s .before .before .life-at .ensures) (s .before .is-live .ensures) (h .inv .2) (t .pre .byId .ascending) (omega (arith, h .inv .1, t .pre .room)) (s .if1 .taken)
-          (ap (λ f. f .0) (s .before .before .before .delete-file-data-file .ensures)) (c .before .before .set-at-data-file .ensures),
+      set .set-at-data-file .kept .1 .1 .1 .0 ∙ h .inv .1,
+      found-live _ _ _ _ _ _ (h .j) (h .j - 1) (omega arith) (omega arith) (live .before .before .life-at .ensures) (live .before .is-live .ensures) (h .inv .2) (start .pre .byId .ascending)
+          (omega (arith, h .inv .1, start .pre .room)) (live .if1 .taken) (ap (λ f. f .0) (file .delete-file-data-file .ensures)) (set .set-at-data-file .ensures),
     )
 
 loop-again-2 : tie.Need-loop-again-2 Inv-loop μ-loop
 loop-again-2 c =
-    let h = c .before .before .before .before .before .loop in
-    let a = c .before .before .before .before .before .before .before .before .before .args in (
-      omega arith,
-      h .inv .1,
-      found-ended (a .data-files .now) (a .n) (a .delete-files .now) (a .m) (a .s .0) (h .places) (h .j) (h .j - 1) (omega arith) (omega arith)
-          (c .before .before .life-at .ensures) (c .before .is-live .ensures) (h .inv .2) (c .if1 .left),
-    )
+    let head : tie.At-loop Inv-loop μ-loop = search in
+    let start : tie.Start Inv-loop μ-loop = search in
+    let h = head .loop in
+    let a = start .args in
+    (omega arith, h .inv .1, found-ended (a .data-files .now) _ _ (a .m) _ (h .places) (h .j) (h .j - 1) (omega arith) (omega arith) (c .before .before .life-at .ensures) (c .before .is-live .ensures) (h .inv .2) (c .if1 .left))
 
 same-length : tie.Need-same-length Inv-loop μ-loop
 same-length c = c .before .loop .inv .1
 
 returns : tie.Need-returns Inv-loop μ-loop
 returns c =
+    let start : tie.Start Inv-loop μ-loop = search in
     let h = c .before .loop in
-    let a = c .before .before .before .before .before .args in
-    found-end (a .data-files .now) (a .n) (a .delete-files .now) (a .m) (a .s .0) (h .places) (h .j) (omega arith) (omega (arith, h .inv .1, c .before .before .before .before .before .pre .room)) (h .inv .2)
+    let a = start .args in
+    found-end (a .data-files .now) (a .n) (a .delete-files .now) (a .m) (a .s .0) (h .places) (h .j) (omega arith) (omega (arith, h .inv .1, start .pre .room)) (h .inv .2)
 
 pub find-live-delete-files-spec : {M : Type 1} → statement M
 find-live-delete-files-spec =

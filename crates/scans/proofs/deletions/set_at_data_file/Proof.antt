@@ -15,7 +15,8 @@ slice-write-numbers c = omega (arith, found-tells _ _ _ (c .before .before .befo
 
 returns : tie.Need-returns
 returns c =
-    let a = c .before .before .before .before .before .before .args in
+    let start : tie.Start = search in
+    let a = start .args in
     ap (λ r. setAt r (a .numbers .now) (a .x)) (sym (c .before .found .given .1) ∙ c .before .before .before .find-data-file .ensures)
 
 returns-2 : tie.Need-returns-2

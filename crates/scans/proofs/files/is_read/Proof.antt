@@ -15,7 +15,8 @@ returns c =
 
 returns-2 : tie.Need-returns-2
 returns-2 c =
-    let a = c .before .before .before .before .before .before .args in
+    let start : tie.Start = search in
+    let a = start .args in
     is-read (c .file-passes .ensures (dataFileAt (a .data-files .now) (a .i)) (sym (ap (λ f. f .0) (c .before .data-file-id .ensures))))
     (passed (c .before .before .before .is-in-table .ensures) (c .before .before .if1 .left))
 

@@ -1,86 +1,75 @@
 -- The loop lays the two words of each file that is read behind those of the files before it.
 use borrow.Author.Needs.{needs}
-use Prim.Native.Nat.{_≤_, _-_}
-use mathlib.Core.Path.{_≡_, refl, _∙_}
+use Prim.Native.Nat.{_≤_, _+_, _-_}
+use mathlib.Core.Path.{refl}
 use native.Mathlib.Omega.{arith}
 use lib.ListN.{length}
+use Rattle.scans.specs.Filters.{listedSize}
 use Rattle.scans.proofs.FileLists.{Listing, place-within, listed-is, listing-room, listing-pass, listing-fail, listing-end}
 use Rattle.scans.proofs.files.list_files.Statement.{statement}
 use Rattle.scans.proofs.files.list_files.Tie as tie
 
 abbrev Inv-loop : tie.InvT-loop
 Inv-loop files n run m statistics q places table s filter area₀ k₀ i₀ area k i =
-    (i ≤ n) × (length area ≡ length area₀) × Listing files run statistics n m q (table .0) (s .0) filter area₀ area k i
+    (i ≤ n) × Listing files run statistics n m q (table .0) (s .0) filter area₀ area k i
 
 abbrev μ-loop : tie.MeasureT-loop
 μ-loop files n run m statistics q places table s filter area₀ k₀ i₀ area k i = n - i
 
 loop-holds : tie.Need-loop-holds Inv-loop μ-loop
-loop-holds c = (omega arith, refl, λ positions. refl)
+loop-holds c =
+    let start : tie.Start Inv-loop μ-loop = search in
+    (omega arith, record { long = refl; room = start .pre .1; same = λ positions. refl })
 
 shared-slice-read-write-listed : tie.Need-shared-slice-read-write-listed Inv-loop μ-loop
-shared-slice-read-write-listed c = omega (arith, c .before .before .before .before .before .before .before .before .before .before .pre .0 .1 .room)
+shared-slice-read-write-listed c =
+    let start : tie.Start Inv-loop μ-loop = search in
+    omega (arith, start .pre .0 .1 .room)
+
+-- the next file that is read has room behind those laid
+has-room : (c : tie.Then1 Inv-loop μ-loop) → let head : tie.At-loop Inv-loop μ-loop = search in head .loop .k + listedSize ≤ length (head .loop .area)
+has-room c =
+    let turn : tie.In-loop Inv-loop μ-loop = search in
+    listing-room _ _ _ _ _ _ _ _ _ (turn .before .loop .inv .1) (turn .loop-test .taken) (c .before .is-read .ensures) (c .if1 .taken)
 
 write-listed-requires : tie.Need-write-listed-requires Inv-loop μ-loop
 write-listed-requires c κs =
-    let h = c .before .before .before .before .before .loop in
-    let t = c .before .before .before .before .before .before .before .before .before .before .before in
-    let a = t .args in
-    let g = c .before .before .before .before .loop-test .taken in (
-      omega (arith, t .pre .0 .0 .lent),
-      omega (arith, t .pre .0 .2, place-within _ _ (a .places .now) (a .n) (a .m) (a .s .0) (t .pre .0 .1) (h .i) g),
-      listing-room (a .data-files .now) (a .delete-files .now) (a .statistics .now) (a .n) (a .m) (a .q) (a .table .0) (a .s .0) (a .filter) (a .area .now) (h .area) (h .k) (h .i)
-          (omega (arith, t .pre .1, h .inv .1)) (h .inv .2) g (c .before .before .before .is-read .ensures) (c .before .before .if1 .taken),
-    )
+    let read : tie.Then1 Inv-loop μ-loop = search in
+    let turn : tie.In-loop Inv-loop μ-loop = search in
+    let start : tie.Start Inv-loop μ-loop = search in
+    let p = start .pre .0 in
+    (omega (arith, p .0 .lent), omega (arith, p .2, place-within _ _ _ _ _ _ (p .1) _ (turn .loop-test .taken)), has-room read)
 
 add-k : tie.Need-add-k Inv-loop μ-loop
 add-k c =
-    let s = c .before .before .before .before .before in
-    let h = s .before .before .before .loop in
-    let t = s .before .before .before .before .before .before .before .before .before in
-    let a = t .args in
-    omega (
-      arith,
-      listing-room (a .data-files .now) (a .delete-files .now) (a .statistics .now) (a .n) (a .m) (a .q) (a .table .0) (a .s .0) (a .filter) (a .area .now) (h .area) (h .k) (h .i)
-          (omega (arith, t .pre .1, h .inv .1)) (h .inv .2) (s .before .before .loop-test .taken) (s .before .is-read .ensures) (s .if1 .taken),
-      h .inv .1,
-      t .good .1 .1 .1 .1 .1 .1 .1 .1 .1 .1 .0 .0,
-    )
+    let read : tie.Then1 Inv-loop μ-loop = search in
+    let head : tie.At-loop Inv-loop μ-loop = search in
+    let start : tie.Start Inv-loop μ-loop = search in
+    omega (arith, has-room read, head .loop .inv .1 .long, start .good .1 .1 .1 .1 .1 .1 .1 .1 .1 .1 .0 .0)
 
 loop-again : tie.Need-loop-again Inv-loop μ-loop
 loop-again c =
-    let w = c .before .before .write-listed in
-    let s = c .before .before .before .before .before in
-    let h = s .before .before .before .loop in
-    let t = s .before .before .before .before .before .before .before .before .before in
-    let a = t .args in
-    let g = s .before .before .loop-test .taken in (
+    let written : tie.After-write-listed Inv-loop μ-loop = search in
+    let read : tie.Then1 Inv-loop μ-loop = search in
+    let turn : tie.In-loop Inv-loop μ-loop = search in
+    let start : tie.Start Inv-loop μ-loop = search in
+    let w = written .write-listed in
+    let g = turn .loop-test .taken in (
       omega arith,
-      w .kept .1 .1 .1 .1 .0 ∙ h .inv .1,
-      listing-pass (a .data-files .now) (a .delete-files .now) (a .statistics .now) (a .n) (a .m) (a .q) (a .table .0) (a .s .0) (a .filter) (a .area .now) (h .area) (h .k) (h .i)
-          (omega (arith, t .pre .1, h .inv .1)) (h .inv .2) g (s .before .is-read .ensures) (s .if1 .taken) (w .ensures)
-          (λ positions. listed-is (a .data-files .now) (a .delete-files .now) (a .places .now) (a .n) (a .m) (a .s .0) (t .pre .0 .1) positions (h .i) g),
+      listing-pass _ _ _ _ _ _ _ _ _ (turn .before .loop .inv .1) g (read .before .is-read .ensures) _ (read .if1 .taken) (w .kept .1 .1 .1 .1 .0) (w .ensures)
+          (λ positions. listed-is _ _ _ _ _ _ (start .pre .0 .1) positions _ g),
     )
 
 loop-again-2 : tie.Need-loop-again-2 Inv-loop μ-loop
 loop-again-2 c =
-    let h = c .before .before .before .loop in
-    let t = c .before .before .before .before .before .before .before .before .before in
-    let a = t .args in (
-      omega arith,
-      h .inv .1,
-      listing-fail (a .data-files .now) (a .delete-files .now) (a .statistics .now) (a .n) (a .m) (a .q) (a .table .0) (a .s .0) (a .filter) (a .area .now) (h .area) (h .k) (h .i)
-          (omega (arith, t .pre .1, h .inv .1)) (h .inv .2) (c .before .before .loop-test .taken) (c .before .is-read .ensures) (c .if1 .left),
-    )
+    let turn : tie.In-loop Inv-loop μ-loop = search in
+    (omega arith, listing-fail _ _ _ _ _ _ _ _ _ (turn .before .loop .inv .1) (turn .loop-test .taken) (c .before .is-read .ensures) (c .if1 .left))
 
 same-length : tie.Need-same-length Inv-loop μ-loop
-same-length c = c .before .loop .inv .1
+same-length c = c .before .loop .inv .1 .long
 
 returns : tie.Need-returns Inv-loop μ-loop
-returns c positions =
-    let h = c .before .loop in
-    let a = c .before .before .before .before .before .before .before .args in
-    listing-end (a .data-files .now) (a .delete-files .now) (a .statistics .now) (a .n) (a .m) (a .q) (a .table .0) (a .s .0) (a .filter) (a .area .now) (h .area) (h .k) (h .i) (h .inv .2) (c .loop-test .left) positions
+returns c positions = listing-end _ _ _ _ _ _ _ _ _ (c .before .loop .inv .1) (c .loop-test .left) positions
 
 pub list-files-spec : {M : Type 1} → statement M
 list-files-spec =

@@ -1,13 +1,12 @@
 -- The statistics of a data file stand together: the record for the column is among them or nowhere.
 use borrow.Author.Needs.{needs}
 use Prim.Native.Nat.{_≤_, _-_}
-use mathlib.Core.Path.{_≡_, refl, sym, ap, _∙_}
+use mathlib.Core.Path.{_≡_, refl, sym, _∙_}
 use native.Mathlib.Omega.{arith}
 use Rattle.lists.specs.Lists.{any}
 use Rattle.lists.specs.Runs.{from}
 use Rattle.layout.specs.Types.{signed}
-use Rattle.layout.specs.Words.{statisticsAt, statisticsIn}
-use Rattle.ducklake.specs.Readings.{kept}
+use Rattle.layout.specs.Words.{statisticsAt}
 use mir.Facts.{toZ-ofZ}
 use Rattle.scans.proofs.Statistics.{admitted, kept-block, any-here, any-past, any-over, admitted-is}
 use Rattle.scans.proofs.filter.file_admits.Statement.{statement}
@@ -28,23 +27,27 @@ statistics-at-requires c κs = omega (arith, c .before .before .statistics-of .e
 
 returns : tie.Need-returns Inv-loop μ-loop
 returns c f e =
-    let s = c .before .before in
-    let h = s .before .before .before .loop in
-    let t = s .before .before .before .before .before .before in
-    sym (ap (λ z. kept (statisticsIn (t .args .statistics .now) (t .args .n)) (t .args .column) z f) (sym (toZ-ofZ (t .fits .scalar))) ∙ (kept-block _ _ _ _ f e (s .before .before .before .before .statistics-of .ensures)
-    ∙ (h .inv .1 ∙ any-here _ _ _ _ (s .before .before .loop-test .taken) (admitted-is (t .args .statistics .now) (h .i) _ _ (s .before .statistics-at .ensures) (s .record-admits .ensures) ∙ c .if1 .taken))))
+    let admits : tie.After-record-admits Inv-loop μ-loop = search in
+    let turn : tie.In-loop Inv-loop μ-loop = search in
+    let own : tie.After-statistics-of Inv-loop μ-loop = search in
+    let start : tie.Start Inv-loop μ-loop = search in
+    let h = turn .before .loop in
+    sym (kept-block _ _ _ (toZ-ofZ (start .fits .scalar)) f e (own .statistics-of .ensures)
+    ∙ (h .inv .1 ∙ any-here _ _ _ _ (turn .loop-test .taken) (admitted-is (start .args .statistics .now) (h .i) _ _ (admits .before .statistics-at .ensures) (admits .record-admits .ensures) ∙ c .if1 .taken)))
 
 loop-again : tie.Need-loop-again Inv-loop μ-loop
 loop-again c =
-    let s = c .before .before in
-    let h = s .before .before .before .loop in
-    (omega arith, h .inv .1 ∙ any-past _ _ _ _ (s .before .before .loop-test .taken) (admitted-is (s .before .before .before .before .before .before .args .statistics .now) (h .i) _ _ (s .before .statistics-at .ensures) (s .record-admits .ensures) ∙ c .if1 .left))
+    let admits : tie.After-record-admits Inv-loop μ-loop = search in
+    let turn : tie.In-loop Inv-loop μ-loop = search in
+    let start : tie.Start Inv-loop μ-loop = search in
+    let h = turn .before .loop in
+    (omega arith, h .inv .1 ∙ any-past _ _ _ _ (turn .loop-test .taken) (admitted-is (start .args .statistics .now) (h .i) _ _ (admits .before .statistics-at .ensures) (admits .record-admits .ensures) ∙ c .if1 .left))
 
 returns-2 : tie.Need-returns-2 Inv-loop μ-loop
 returns-2 c f e =
-    let t = c .before .before .before .before in
-    sym (ap (λ z. kept (statisticsIn (t .args .statistics .now) (t .args .n)) (t .args .column) z f) (sym (toZ-ofZ (t .fits .scalar)))
-    ∙ (kept-block _ _ _ _ f e (c .before .before .statistics-of .ensures) ∙ (c .before .loop .inv .1 ∙ any-over _ _ _ _ (c .loop-test .left))))
+    let own : tie.After-statistics-of Inv-loop μ-loop = search in
+    let start : tie.Start Inv-loop μ-loop = search in
+    sym (kept-block _ _ _ (toZ-ofZ (start .fits .scalar)) f e (own .statistics-of .ensures) ∙ (c .before .loop .inv .1 ∙ any-over _ _ _ _ (c .loop-test .left)))
 
 pub file-admits-spec : {M : Type 1} → statement M
 file-admits-spec =
