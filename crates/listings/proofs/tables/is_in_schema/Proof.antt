@@ -12,8 +12,12 @@ use Rattle.listings.proofs.tables.is_in_schema.Tie as tie
 returns : tie.Need-returns
 unfolding field live
 returns c names =
-    let a = c .before .before .before .before .before .before .args in
-    ap₂ {C = Bool} (λ k b. eqb (k .0) (a .schema .0) && b) (c .before .before .before .before .table-schema .ensures) (c .before .before .is-live .ensures ∙ ap (λ l. live (a .s .0) (withLife l)) (c .before .before .before .life-at .ensures))
+    let told : tie.After-is-live = search in
+    let life : tie.After-life-at = search in
+    let holder : tie.After-table-schema = search in
+    let start : tie.Start = search in
+    let a = start .args in
+    ap₂ {C = Bool} (λ k b. eqb (k .0) (a .schema .0) && b) (holder .table-schema .ensures) (told .is-live .ensures ∙ ap (λ l. live (a .s .0) (withLife l)) (life .life-at .ensures))
 
 pub is-in-schema-spec : {M : Type 1} → statement M
 is-in-schema-spec =
