@@ -1,9 +1,9 @@
 -- `count_hashes` meets its contract: at every turn the hashes so far are counted.
 use borrow.Author.Needs.{needs}
-use Prim.Native.Nat.{_-_, _≤_}
+use Prim.Native.Nat.{_-_, _≤_, _<_}
 use mathlib.Core.Path.{_≡_, refl, _∙_}
 use native.Mathlib.Omega.{arith}
-use lib.ListN.{length, take, length-set}
+use lib.ListN.{length, take, getD, length-set}
 use lib.Seq.{take-all}
 use Rattle.sorting.specs.Colliding.{Counted}
 use Rattle.sorting.proofs.Collisions.{counted-next, hash-in}
@@ -19,20 +19,24 @@ abbrev μ-loop : tie.MeasureT-loop
 loop-holds : tie.Need-loop-holds Inv-loop μ-loop
 loop-holds c = (omega arith, refl, c .before .before .pre .0)
 
+abbrev begun : tie.In-loop Inv-loop μ-loop → tie.Start Inv-loop μ-loop
+begun c = search
+
+-- the hash at the place i has a count
+counted : (c : tie.In-loop Inv-loop μ-loop) → let l = c .before .loop in getD (begun c .args .hashes .now) (l .i) 0 < length (l .counts)
+counted c = omega (arith, c .before .loop .inv .1, hash-in _ _ _ (begun c .pre .1) (c .loop-test .taken))
+
 slice-read-one-more : tie.Need-slice-read-one-more Inv-loop μ-loop
-slice-read-one-more c =
-    omega (arith, c .before .before .before .loop .inv .1, hash-in _ _ _ (c .before .before .before .before .before .before .pre .1) (c .before .before .loop-test .taken))
+slice-read-one-more c = counted (c .before .before)
 
 slice-write-counts : tie.Need-slice-write-counts Inv-loop μ-loop
-slice-write-counts c =
-    omega (arith, c .before .before .before .before .loop .inv .1, hash-in _ _ _ (c .before .before .before .before .before .before .before .pre .1) (c .before .before .before .loop-test .taken))
+slice-write-counts c = counted (c .before .before .before)
 
 loop-again : tie.Need-loop-again Inv-loop μ-loop
 loop-again c =
     let s = c .before .before .before in
     let l = s .before .loop in
-    let g = hash-in _ _ _ (s .before .before .before .before .pre .1) (s .loop-test .taken) in
-    (omega (arith, s .loop-test .taken), rw length-set (l .inv .1), counted-next _ _ _ (s .loop-test .taken) (omega (arith, l .inv .1, g)) (c .one-more .ensures) (l .inv .2))
+    (omega (arith, s .loop-test .taken), rw length-set (l .inv .1), counted-next _ _ _ (s .loop-test .taken) (counted s) (c .one-more .ensures) (l .inv .2))
 
 same-length : tie.Need-same-length Inv-loop μ-loop
 same-length c = c .before .loop .inv .1

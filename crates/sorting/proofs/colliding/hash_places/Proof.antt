@@ -22,7 +22,8 @@ loop-holds c = (omega arith, c .before .before .before .pre .2, hashed-start _ _
 
 hash-at-requires : tie.Need-hash-at-requires Inv-loop μ-loop
 hash-at-requires c κs =
-    let p = c .before .before .before .before .before .before .pre in (keyed-at _ _ _ _ (p .0) (c .before .loop-test .taken), p .1)
+    let start : tie.Start Inv-loop μ-loop = search in
+    (keyed-at _ _ _ _ (start .pre .0) (c .before .loop-test .taken), start .pre .1)
 
 loop-again : tie.Need-loop-again Inv-loop μ-loop
 loop-again c =

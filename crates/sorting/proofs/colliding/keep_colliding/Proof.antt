@@ -10,25 +10,26 @@ use Rattle.sorting.proofs.colliding.keep_colliding.Tie as tie
 
 count-hashes-requires : tie.Need-count-hashes-requires
 count-hashes-requires c κs =
-    let h = c .before .before .before .before in
-    let a = h .before .before .before .before .before .before .args in
+    let h : tie.After-hash-places = search in
+    let start : tie.Start = search in
+    let a = start .args in
     (counted-none hashLimit, hashes-below (a .second) (a .used) (a .size) (a .keys .now) (a .w .now) (replicate hashLimit 0) (h .hash-places .ensures) (length-replicate {A = ℕ} hashLimit 0))
 
 keep-requires : tie.Need-keep-requires
 keep-requires c κs =
-    let n = c .before .before .before .before in
-    let h = n .before .before .before .before .before in
-    let s = h .before .before .before .before .before .before in
-    let a = s .args in
+    let n : tie.After-count-hashes = search in
+    let h : tie.After-hash-places = search in
+    let start : tie.Start = search in
+    let a = start .args in
     (ap length (h .hash-places .ensures) ∙ length-map (a .w .now) _, hashes-below (a .second) (a .used) (a .size) (a .keys .now) (a .w .now) _ (h .hash-places .ensures) (n .count-hashes .ensures .0 ∙ length-replicate {A = ℕ} hashLimit 0))
 
 returns : tie.Need-returns
 returns c =
-    let k = c .before .before in
-    let n = k .before .before .before .before .before in
-    let h = n .before .before .before .before .before in
-    let a = h .before .before .before .before .before .before .args in
-    let e = k .keep .ensures in
+    let n : tie.After-count-hashes = search in
+    let h : tie.After-hash-places = search in
+    let start : tie.Start = search in
+    let a = start .args in
+    let e = c .before .before .keep .ensures in
     (e .0, e .1, thinned (a .second) (a .used) (a .size) (a .keys .now) (a .w .now) (h .hash-places .ensures) (n .count-hashes .ensures .1) (e .2 _ (h .hash-places .ensures)))
 
 pub keep-colliding-spec : {M : Type 1} → statement M

@@ -13,28 +13,33 @@ returns c = (refl, omega arith, rw take-length (thinned-none _ _ _ _))
 
 slice-aggregate-keep-colliding : tie.Need-slice-aggregate-keep-colliding
 slice-aggregate-keep-colliding c =
-    let k = c .before .before .before .before .before .keep-colliding in sym (length-take-le _ (k .last .1 .1 .1 .1 .0) (omega (arith, k .ensures .0, k .ensures .1)))
+    let first : tie.After-keep-colliding = search in
+    let k = first .keep-colliding in
+    sym (length-take-le _ (k .last .1 .1 .1 .1 .0) (omega (arith, k .ensures .0, k .ensures .1)))
 
 slice-aggregate-keep-colliding-2 : tie.Need-slice-aggregate-keep-colliding-2
 slice-aggregate-keep-colliding-2 c =
-    let f = c .before .before .before .before .before .before in
-    let k = f .keep-colliding in
-    sym (length-take-le _ (k .last .1 .1 .1 .1 .1 .0) (omega (arith, f .before .before .before .before .before .before .before .pre .2, k .kept .1 .1 .1 .1 .1 .0, k .ensures .1)))
+    let first : tie.After-keep-colliding = search in
+    let start : tie.Start = search in
+    let k = first .keep-colliding in
+    sym (length-take-le _ (k .last .1 .1 .1 .1 .1 .0) (omega (arith, start .pre .2, k .kept .1 .1 .1 .1 .1 .0, k .ensures .1)))
 
 keep-colliding-requires-2 : tie.Need-keep-colliding-requires-2
 keep-colliding-requires-2 c κs =
-    let k = c .before .before .before .before .before .before in
-    let p = k .before .before .before .before .before .before .before .pre in
-    (thinned-keyed _ _ _ (k .keep-colliding .ensures .2) (p .0), p .1, simp length-take (omega (arith, p .2, k .keep-colliding .ensures .0, k .keep-colliding .kept .1 .1 .1 .1 .1 .0)))
+    let first : tie.After-keep-colliding = search in
+    let start : tie.Start = search in
+    let p = start .pre in
+    let k = first .keep-colliding in
+    (thinned-keyed _ _ _ (k .ensures .2) (p .0), p .1, simp length-take (omega (arith, p .2, k .ensures .0, k .kept .1 .1 .1 .1 .1 .0)))
 
 returns-2 : tie.Need-returns-2
 returns-2 c =
-    let k = c .before .before .before .before in
-    let f = k .before .before .before .before .before .before .before in
-    let w = f .keep-colliding .last .1 .1 .1 .1 .0 in
-    let n = f .keep-colliding .result in
-    let e = f .keep-colliding .ensures in
-    let d = k .keep-colliding2 .ensures in
+    let second : tie.After-keep-colliding2 = search in
+    let first : tie.After-keep-colliding = search in
+    let w = first .keep-colliding .last .1 .1 .1 .1 .0 in
+    let n = first .keep-colliding .result in
+    let e = first .keep-colliding .ensures in
+    let d = second .keep-colliding2 .ensures in
     (search needs, omega (arith, d .1, length-take n w, e .0), thinned-twice _ _ _ w _ _ n _ (e .2) (d .0) (d .1) (d .2))
 
 pub thin-spec : {M : Type 1} → statement M

@@ -13,37 +13,41 @@ use Rattle.sorting.proofs.distinct.keys_differ.Tie as tie
 
 thin-requires : tie.Need-thin-requires
 thin-requires c κs =
-    let n = c .before .before .before .before in
-    let p = n .before .before .before .before .before .pre in
-    (rw (n .number .ensures) (keyed-range _ _ _ (p .0)), omega arith, rw (n .number .ensures, length-range) (p .1))
+    let numbered : tie.After-number = search in
+    let start : tie.Start = search in
+    let n = numbered .number .ensures in
+    (rw n (keyed-range _ _ _ (start .pre .0)), omega arith, rw (n, length-range) (start .pre .1))
 
 slice-aggregate-places-differ : tie.Need-slice-aggregate-places-differ
 slice-aggregate-places-differ c =
-    let t = c .before .before .before .before .before .thin in sym (length-take-le _ (t .last .1 .1 .1 .0) (omega (arith, t .ensures .0, t .ensures .1)))
+    let thinned : tie.After-thin = search in
+    let t = thinned .thin in
+    sym (length-take-le _ (t .last .1 .1 .1 .0) (omega (arith, t .ensures .0, t .ensures .1)))
 
 slice-aggregate-places-differ-2 : tie.Need-slice-aggregate-places-differ-2
 slice-aggregate-places-differ-2 c =
-    let f = c .before .before .before .before .before .before in
-    let n = f .before .before .before .before .before in
-    let t = f .thin in
-    sym (length-take-le _ (t .last .1 .1 .1 .1 .0) (omega (arith, n .before .before .before .before .before .pre .1, n .number .kept .0, t .kept .1 .1 .1 .1 .0, t .ensures .1)))
+    let thinned : tie.After-thin = search in
+    let numbered : tie.After-number = search in
+    let start : tie.Start = search in
+    let t = thinned .thin in
+    sym (length-take-le _ (t .last .1 .1 .1 .1 .0) (omega (arith, start .pre .1, numbered .number .kept .0, t .kept .1 .1 .1 .1 .0, t .ensures .1)))
 
 places-differ-requires : tie.Need-places-differ-requires
 places-differ-requires c κs =
-    let f = c .before .before .before .before .before .before in
-    let n = f .before .before .before .before .before in
-    let p = n .before .before .before .before .before .pre in
-    let t = f .thin in (
-      thinned-keyed _ _ _ (t .ensures .2) (rw (n .number .ensures) (keyed-range _ _ _ (p .0))),
-      simp length-take (omega (arith, p .1, n .number .kept .0, t .kept .1 .1 .1 .1 .0, t .ensures .0)),
+    let thinned : tie.After-thin = search in
+    let numbered : tie.After-number = search in
+    let start : tie.Start = search in
+    let t = thinned .thin in (
+      thinned-keyed _ _ _ (t .ensures .2) (rw (numbered .number .ensures) (keyed-range _ _ _ (start .pre .0))),
+      simp length-take (omega (arith, start .pre .1, numbered .number .kept .0, t .kept .1 .1 .1 .1 .0, t .ensures .0)),
     )
 
 returns : tie.Need-returns
 returns c =
-    let d = c .before .before .before .before in
-    let f = d .before .before .before .before .before .before .before in
-    let n = f .before .before .before .before .before in
-    d .places-differ .ensures ∙ (distinct-thinned _ _ (f .thin .ensures .2) ∙ ap (pairwise _) (n .number .ensures))
+    let decided : tie.After-places-differ = search in
+    let thinned : tie.After-thin = search in
+    let numbered : tie.After-number = search in
+    decided .places-differ .ensures ∙ (distinct-thinned _ _ (thinned .thin .ensures .2) ∙ ap (pairwise _) (numbered .number .ensures))
 
 pub keys-differ-spec : {M : Type 1} → statement M
 keys-differ-spec =

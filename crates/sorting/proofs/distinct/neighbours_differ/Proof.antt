@@ -24,9 +24,9 @@ loop-holds c = (omega arith, refl)
 
 same-key-requires : tie.Need-same-key-requires Inv-loop μ-loop
 same-key-requires c κs =
-    let s = c .before .before in
-    let p = s .before .before .before .before .pre in
-    (keyed-at _ _ _ _ p (omega (arith, s .loop-test .taken)), keyed-at _ _ _ _ p (s .loop-test .taken))
+    let start : tie.Start Inv-loop μ-loop = search in
+    let t = c .before .before .loop-test .taken in
+    (keyed-at _ _ _ _ (start .pre) (omega (arith, t)), keyed-at _ _ _ _ (start .pre) t)
 
 returns : tie.Need-returns Inv-loop μ-loop
 returns c =

@@ -7,13 +7,14 @@ use Rattle.sorting.proofs.distinct.places_differ.Tie as tie
 
 neighbours-differ-requires : tie.Need-neighbours-differ-requires
 neighbours-differ-requires c κs =
-    let s = c .before .before .before .before .before in
-    keyed-permuted _ _ _ _ (s .sort .ensures .1) (s .before .before .before .before .before .before .pre .0)
+    let sorted : tie.After-sort = search in
+    let start : tie.Start = search in
+    keyed-permuted _ _ _ _ (sorted .sort .ensures .1) (start .pre .0)
 
 returns : tie.Need-returns
 returns c =
-    let s = c .before .before .before .before .before .before in
-    c .neighbours-differ .ensures ∙ distinct-sorted _ _ _ _ (s .sort .ensures .1) (s .sort .ensures .2)
+    let sorted : tie.After-sort = search in
+    c .neighbours-differ .ensures ∙ distinct-sorted _ _ _ _ (sorted .sort .ensures .1) (sorted .sort .ensures .2)
 
 pub places-differ-spec : {M : Type 1} → statement M
 places-differ-spec =
