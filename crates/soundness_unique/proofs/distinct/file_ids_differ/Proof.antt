@@ -6,9 +6,10 @@ use Rattle.soundness_unique.proofs.distinct.file_ids_differ.Tie as tie
 
 returns : tie.Need-returns
 returns c positions =
-    let s = c .before .before .before .before in
-    let p = s .before .before .before .before .before .before in
-    ids-told _ _ _ positions _ (p .put-file-words .ensures) (p .before .before .before .before .before .before .before .before .pre .1 .places) (s .keys-differ .ensures)
+    let decided : tie.After-keys-differ = search in
+    let put : tie.After-put-file-words = search in
+    let start : tie.Start = search in
+    ids-told _ _ _ positions _ (put .put-file-words .ensures) (start .pre .1 .places) (decided .keys-differ .ensures)
 
 pub file-ids-differ-spec : {M : Type 1} → statement M
 file-ids-differ-spec =

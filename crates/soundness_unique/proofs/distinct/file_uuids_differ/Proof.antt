@@ -6,10 +6,11 @@ use Rattle.soundness_unique.proofs.distinct.file_uuids_differ.Tie as ti
 
 returns : tie.Need-returns
 returns c positions =
-    let s = c .before .before .before .before in
-    let low = s .before .before .before .before .before .before in
-    let high = low .before .before .before .before in
-    uuids-told _ _ _ positions _ (high .put-file-words .ensures) (low .put-file-words2 .ensures) (high .before .before .before .before .before .before .before .before .pre .1 .places) (s .keys-differ .ensures)
+    let decided : tie.After-keys-differ = search in
+    let low : tie.After-put-file-words2 = search in
+    let high : tie.After-put-file-words = search in
+    let start : tie.Start = search in
+    uuids-told _ _ _ positions _ (high .put-file-words .ensures) (low .put-file-words2 .ensures) (start .pre .1 .places) (decided .keys-differ .ensures)
 
 pub file-uuids-differ-spec : {M : Type 1} → statement M
 file-uuids-differ-spec =

@@ -7,8 +7,9 @@ use Rattle.soundness_unique.proofs.distinct.files_differ.Tie as tie
 
 returns : tie.Need-returns
 returns c positions =
-    let s = c .before .before .before .before .before .before in
-    ap₂ _&&_ (s .before .before .before .before .before .before .before .before .before .before .file-ids-differ .ensures positions) (s .file-uuids-differ .ensures positions)
+    let uuids : tie.After-file-uuids-differ = search in
+    let ids : tie.After-file-ids-differ = search in
+    ap₂ _&&_ (ids .file-ids-differ .ensures positions) (uuids .file-uuids-differ .ensures positions)
 
 pub files-differ-spec : {M : Type 1} → statement M
 files-differ-spec =

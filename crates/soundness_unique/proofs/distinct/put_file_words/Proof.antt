@@ -6,10 +6,10 @@ use Rattle.soundness_unique.proofs.distinct.put_file_words.Tie as tie
 
 returns : tie.Need-returns
 returns c =
-    let third = c .before .before in
-    let second = third .before .before .before .before in
-    let first = second .before .before .before .before in
-    files-put _ _ _ _ (first .before .before .before .before .before .before .pre .1 .within) (first .put-words .ensures) (second .put-words2 .ensures) (third .put-words3 .ensures)
+    let second : tie.After-put-words2 = search in
+    let first : tie.After-put-words = search in
+    let start : tie.Start = search in
+    files-put _ _ _ _ (start .pre .1 .within) (first .put-words .ensures) (second .put-words2 .ensures) (c .before .before .put-words3 .ensures)
 
 pub put-file-words-spec : {M : Type 1} → statement M
 put-file-words-spec =

@@ -15,47 +15,55 @@ use Rattle.soundness_unique.proofs.naming.lives_apart.Statement.{statem
 use Rattle.soundness_unique.proofs.naming.lives_apart.Tie as tie
 
 add-key-size : tie.Need-add-key-size
-add-key-size c = omega (arith, c .before .before .before .before .before .before .before .before .pre .0 .short)
+add-key-size c = let start : tie.Start = search in omega (arith, start .pre .0 .short)
 
 thin-requires : tie.Need-thin-requires
 thin-requires c κs =
-    let n = c .before .before .before .before in
-    let p = n .before .before .before .before .before .before .pre in
-    (rw (n .number .ensures) (keyed-range _ _ _ (p .0 .room)), omega arith, rw (n .number .ensures, length-range) (p .1))
+    let numbered : tie.After-number = search in
+    let start : tie.Start = search in
+    let n = numbered .number .ensures in
+    (rw n (keyed-range _ _ _ (start .pre .0 .room)), omega arith, rw (n, length-range) (start .pre .1))
 
 slice-aggregate-places-apart : tie.Need-slice-aggregate-places-apart
 slice-aggregate-places-apart c =
-    let t = c .before .before .before .before .before .thin in sym (length-take-le _ (t .last .1 .1 .1 .0) (omega (arith, t .ensures .0, t .ensures .1)))
+    let thinned : tie.After-thin = search in
+    let t = thinned .thin in
+    sym (length-take-le _ (t .last .1 .1 .1 .0) (omega (arith, t .ensures .0, t .ensures .1)))
 
 slice-aggregate-places-apart-2 : tie.Need-slice-aggregate-places-apart-2
 slice-aggregate-places-apart-2 c =
-    let f = c .before .before .before .before .before .before in
-    let n = f .before .before .before .before .before in
-    let t = f .thin in
-    sym (length-take-le _ (t .last .1 .1 .1 .1 .0) (omega (arith, n .before .before .before .before .before .before .pre .1, n .number .kept .0, t .kept .1 .1 .1 .1 .0, t .ensures .1)))
+    let thinned : tie.After-thin = search in
+    let numbered : tie.After-number = search in
+    let start : tie.Start = search in
+    let t = thinned .thin in
+    sym (length-take-le _ (t .last .1 .1 .1 .1 .0) (omega (arith, start .pre .1, numbered .number .kept .0, t .kept .1 .1 .1 .1 .0, t .ensures .1)))
 
 places-apart-requires : tie.Need-places-apart-requires
 places-apart-requires c κs =
-    let f = c .before .before .before .before .before .before in
-    let n = f .before .before .before .before .before in
-    let p = n .before .before .before .before .before .before .pre in
-    let t = f .thin in (
-      thinned-keyed _ _ _ (t .ensures .2) (rw (n .number .ensures) (keyed-range _ _ _ (p .0 .room))),
-      thinned-lent _ _ (t .ensures .2) (rw (n .number .ensures) (keyed-range _ _ _ (p .0 .living .lent))),
+    let thinned : tie.After-thin = search in
+    let numbered : tie.After-number = search in
+    let start : tie.Start = search in
+    let p = start .pre in
+    let n = numbered .number in
+    let t = thinned .thin in (
+      thinned-keyed _ _ _ (t .ensures .2) (rw (n .ensures) (keyed-range _ _ _ (p .0 .room))),
+      thinned-lent _ _ (t .ensures .2) (rw (n .ensures) (keyed-range _ _ _ (p .0 .living .lent))),
       p .0 .short,
       p .0 .living .inside,
-      simp length-take (omega (arith, p .1, n .number .kept .0, t .kept .1 .1 .1 .1 .0, t .ensures .0)),
+      simp length-take (omega (arith, p .1, n .kept .0, t .kept .1 .1 .1 .1 .0, t .ensures .0)),
     )
 
 returns : tie.Need-returns
 returns c =
-    let d = c .before .before .before .before in
-    let f = d .before .before .before .before .before .before .before in
-    let n = f .before .before .before .before .before in
-    let s = n .before .before .before .before .before .before in
-    let m = length (s .args .w .now) in
-    d .places-apart .ensures m (s .pre .0) (f .thin .ensures .2 .within (λ p. ltb p m) (rw (n .number .ensures) (within-range m)))
-    ∙ (lives-thinned _ _ _ _ _ (s .pre .0) (f .thin .ensures .2) ∙ ap (pairwise _) (n .number .ensures))
+    let decided : tie.After-places-apart = search in
+    let thinned : tie.After-thin = search in
+    let numbered : tie.After-number = search in
+    let start : tie.Start = search in
+    let n = numbered .number .ensures in
+    let t = thinned .thin .ensures .2 in
+    let m = length (start .args .w .now) in
+    decided .places-apart .ensures m (start .pre .0) (t .within (λ p. ltb p m) (rw n (within-range m)))
+    ∙ (lives-thinned _ _ _ _ _ (start .pre .0) t ∙ ap (pairwise _) n)
 
 pub lives-apart-spec : {M : Type 1} → statement M
 lives-apart-spec =

@@ -9,16 +9,16 @@ use Rattle.soundness_unique.proofs.naming.names_apart.Statement.{statem
 use Rattle.soundness_unique.proofs.naming.names_apart.Tie as tie
 
 all-names-apart-requires : tie.Need-all-names-apart-requires
-all-names-apart-requires c κs = let p = c .before .before .before .before .before .before .pre in (schemas-living p, p .fewSchemas)
+all-names-apart-requires c κs = let start : tie.Start = search in (schemas-living (start .pre), start .pre .fewSchemas)
 
 all-names-apart-requires-2 : tie.Need-all-names-apart-requires-2
-all-names-apart-requires-2 c κs = let p = c .before .before .before .before .before .before .before .pre in (tables-living p, p .fewTables)
+all-names-apart-requires-2 c κs = let start : tie.Start = search in (tables-living (start .pre), start .pre .fewTables)
 
 all-names-apart-requires-3 : tie.Need-all-names-apart-requires-3
-all-names-apart-requires-3 c κs = let p = c .before .before .before .before .before .before .before .before .pre in (columns-living p, p .fewColumns)
+all-names-apart-requires-3 c κs = let start : tie.Start = search in (columns-living (start .pre), start .pre .fewColumns)
 
 all-orders-apart-requires : tie.Need-all-orders-apart-requires
-all-orders-apart-requires c κs = let p = c .before .before .before .before .before .before .before .before .before .pre in (columns-living p .living, p .fewColumns)
+all-orders-apart-requires c κs = let start : tie.Start = search in (columns-living (start .pre) .living, start .pre .fewColumns)
 
 returns : tie.Need-returns
 unfolding namesApart load

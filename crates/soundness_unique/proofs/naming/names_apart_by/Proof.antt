@@ -7,20 +7,22 @@ use Rattle.soundness_unique.proofs.naming.names_apart_by.Tie as tie
 
 lives-apart-requires : tie.Need-lives-apart-requires
 lives-apart-requires c κs =
-    let w = c .before .before .before .before .before in
-    let m = w .before .before .before .before in
-    let g = m .before .before .before .before in
-    let p = g .before .before .before .before .before .before .before .pre in
+    let w : tie.After-put-words = search in
+    let m : tie.After-put-names = search in
+    let g : tie.After-put-group = search in
+    let start : tie.Start = search in
+    let p = start .pre in
     (names-keyed _ _ _ _ _ _ (p .0) (g .put-group .ensures) (m .put-names .ensures) (w .put-words .ensures) (p .1 .places) (p .1 .room), p .1 .scratch ∙ sym (p .1 .places))
 
 returns : tie.Need-returns
 returns c =
-    let l = c .before .before .before .before in
-    let w = l .before .before .before .before .before .before in
-    let m = w .before .before .before .before in
-    let g = m .before .before .before .before in
-    let p = g .before .before .before .before .before .before .before .pre in
-    names-are _ _ _ _ _ _ (p .0) (g .put-group .ensures) (m .put-names .ensures) (w .put-words .ensures) (p .1 .places) (l .lives-apart .ensures)
+    let decided : tie.After-lives-apart = search in
+    let w : tie.After-put-words = search in
+    let m : tie.After-put-names = search in
+    let g : tie.After-put-group = search in
+    let start : tie.Start = search in
+    let p = start .pre in
+    names-are _ _ _ _ _ _ (p .0) (g .put-group .ensures) (m .put-names .ensures) (w .put-words .ensures) (p .1 .places) (decided .lives-apart .ensures)
 
 pub names-apart-by-spec : {M : Type 1} → statement M
 names-apart-by-spec =

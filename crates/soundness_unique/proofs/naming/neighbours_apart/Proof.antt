@@ -23,9 +23,9 @@ loop-holds c = (omega arith, refl)
 
 keys-apart-requires : tie.Need-keys-apart-requires Inv-loop μ-loop
 keys-apart-requires c κs =
-    let s = c .before .before in
-    let p = s .before .before .before .before .before .pre in
-    let t = s .loop-test .taken in
+    let start : tie.Start Inv-loop μ-loop = search in
+    let p = start .pre in
+    let t = c .before .before .loop-test .taken in
     (keyed-at _ _ _ _ (p .0) (omega (arith, t)), keyed-at _ _ _ _ (p .0) t, keyed-at _ _ _ _ (p .1) (omega (arith, t)), keyed-at _ _ _ _ (p .1) t, p .2)
 
 returns : tie.Need-returns Inv-loop μ-loop

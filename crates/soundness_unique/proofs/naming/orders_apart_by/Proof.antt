@@ -7,20 +7,22 @@ use Rattle.soundness_unique.proofs.naming.orders_apart_by.Tie as tie
 
 lives-apart-requires : tie.Need-lives-apart-requires
 lives-apart-requires c κs =
-    let third = c .before .before .before .before .before in
-    let second = third .before .before .before .before in
-    let first = second .before .before .before .before in
-    let p = first .before .before .before .before .before .before .pre in
+    let third : tie.After-put-words3 = search in
+    let second : tie.After-put-words2 = search in
+    let first : tie.After-put-words = search in
+    let start : tie.Start = search in
+    let p = start .pre in
     (orders-keyed _ _ (p .0) (first .put-words .ensures) (second .put-words2 .ensures) (third .put-words3 .ensures) (p .1 .places) (p .1 .room), p .1 .scratch ∙ sym (p .1 .places))
 
 returns : tie.Need-returns
 returns c =
-    let l = c .before .before .before .before in
-    let third = l .before .before .before .before .before .before in
-    let second = third .before .before .before .before in
-    let first = second .before .before .before .before in
-    let p = first .before .before .before .before .before .before .pre in
-    orders-are _ _ (p .0) (first .put-words .ensures) (second .put-words2 .ensures) (third .put-words3 .ensures) (p .1 .places) (l .lives-apart .ensures)
+    let decided : tie.After-lives-apart = search in
+    let third : tie.After-put-words3 = search in
+    let second : tie.After-put-words2 = search in
+    let first : tie.After-put-words = search in
+    let start : tie.Start = search in
+    let p = start .pre in
+    orders-are _ _ (p .0) (first .put-words .ensures) (second .put-words2 .ensures) (third .put-words3 .ensures) (p .1 .places) (decided .lives-apart .ensures)
 
 pub orders-apart-by-spec : {M : Type 1} → statement M
 orders-apart-by-spec =

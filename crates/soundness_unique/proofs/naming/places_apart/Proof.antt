@@ -8,15 +8,16 @@ use Rattle.soundness_unique.proofs.naming.places_apart.Tie as tie
 
 neighbours-apart-requires : tie.Need-neighbours-apart-requires
 neighbours-apart-requires c κs =
-    let s = c .before .before .before .before .before in
-    let p = s .before .before .before .before .before .before .before .pre in
-    let q = s .sort .ensures .1 in
+    let sorted : tie.After-sort = search in
+    let start : tie.Start = search in
+    let p = start .pre in
+    let q = sorted .sort .ensures .1 in
     (keyed-permuted _ _ _ _ q (p .0), keyed-permuted _ _ _ _ q (p .1), p .3)
 
 returns : tie.Need-returns
 returns c n h m =
-    let s = c .before .before .before .before .before .before in
-    c .neighbours-apart .ensures ∙ lives-sorted _ _ _ _ _ h m (s .sort .ensures .1) (s .sort .ensures .2)
+    let sorted : tie.After-sort = search in
+    c .neighbours-apart .ensures ∙ lives-sorted _ _ _ _ _ h m (sorted .sort .ensures .1) (sorted .sort .ensures .2)
 
 pub places-apart-spec : {M : Type 1} → statement M
 places-apart-spec =

@@ -7,7 +7,8 @@ use Rattle.soundness_unique.proofs.naming.put_group.Tie as tie
 
 put-words-requires : tie.Need-put-words-requires
 put-words-requires c κs =
-    let p = c .before .before .before .before .before .before .pre in
+    let start : tie.Start = search in
+    let p = start .pre in
     record { lent = p .0; inside = group-inside (c .before .before .group .given .1) (p .1); room = omega (arith, p .2); within = omega arith }
 
 returns : tie.Need-returns

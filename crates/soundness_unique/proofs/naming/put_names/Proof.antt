@@ -6,10 +6,10 @@ use Rattle.soundness_unique.proofs.naming.put_names.Tie as tie
 
 returns : tie.Need-returns
 returns c =
-    let d = c .before .before in
-    let b = d .before .before .before .before in
-    let a = b .before .before .before .before in
-    names-put _ _ (a .before .before .before .before .put-name-word .ensures) (a .put-name-word2 .ensures) (b .put-name-word3 .ensures) (d .put-name-word4 .ensures)
+    let third : tie.After-put-name-word3 = search in
+    let second : tie.After-put-name-word2 = search in
+    let first : tie.After-put-name-word = search in
+    names-put _ _ (first .put-name-word .ensures) (second .put-name-word2 .ensures) (third .put-name-word3 .ensures) (c .before .before .put-name-word4 .ensures)
 
 pub put-names-spec : {M : Type 1} → statement M
 put-names-spec =
