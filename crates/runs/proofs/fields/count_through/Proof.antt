@@ -20,8 +20,8 @@ field-at-requires-2 c κs = let s = c .before .before .before .before .pre in (r
 
 returns : tie.Need-returns
 returns c =
-    let s = c .before .before in
-    parted-through _ _ (s .before .before .before .before .pre .2) _ (s .before .if1 .taken) _ (s .field-at .ensures) (c .before .field-at2 .ensures) (c .if2 .taken)
+    let start : tie.Start = search in
+    parted-through _ _ (start .pre .2) _ (c .before .before .before .if1 .taken) _ (c .before .before .field-at .ensures) (c .before .field-at2 .ensures) (c .if2 .taken)
 
 pub count-through-spec : {M : Type 1} → statement M
 count-through-spec = tie.close (tie.spec (λ c κs. search needs) sub-field-at field-at-requires field-at-requires-2 returns (λ c κs. search needs) (λ c. search needs))

@@ -23,19 +23,19 @@ field-at-requires c κs = let s = c .before .before .before .before .pre in (rec
 
 returns : tie.Need-returns Inv-loop μ-loop
 returns c =
-    let l = c .before .before .before .before in
-    sym (here _ _ _ (l .before .before .pre .2) _ (omega arith) (sym (c .before .field-at .ensures) ∙ c .if1 .taken))
+    let start : tie.Start Inv-loop μ-loop = search in
+    sym (here _ _ _ (start .pre .2) _ (omega arith) (sym (c .before .field-at .ensures) ∙ c .if1 .taken))
 
 loop-again : tie.Need-loop-again Inv-loop μ-loop
 loop-again c =
-    let s = c .before .before .before .before in
-    let l = s .before .before .before in
+    let s : tie.After-field-at Inv-loop μ-loop = search in
+    let l : tie.At-loop Inv-loop μ-loop = search in
     down _ _ _ (l .before .before .pre .2) (l .loop .inv) _ (omega arith) (omega arith) (omega (arith, s .field-at .ensures))
 
 loop-again-2 : tie.Need-loop-again-2 Inv-loop μ-loop
 loop-again-2 c =
-    let s = c .before .before .before .before in
-    let l = s .before .before .before in
+    let s : tie.After-field-at Inv-loop μ-loop = search in
+    let l : tie.At-loop Inv-loop μ-loop = search in
     up _ _ _ (l .before .before .pre .2) (l .loop .inv) _ (omega arith) (omega (arith, c .before .before .before .if1 .left, s .field-at .ensures))
 
 returns-2 : tie.Need-returns-2 Inv-loop μ-loop

@@ -33,25 +33,23 @@ field-at-requires-3 : tie.Need-field-at-requires-3 Inv-loop μ-loop
 field-at-requires-3 c κs = let s = c .before .before .before .before .before .pre in (record-fits _ (omega arith) (s .0), s .1)
 
 field-at-requires-4 : tie.Need-field-at-requires-4 Inv-loop μ-loop
-field-at-requires-4 c κs = let s = c .before .before .before .before .before .before .pre in (record-fits _ (omega arith) (s .0), s .2)
+field-at-requires-4 c κs = let start : tie.Start Inv-loop μ-loop = search in (record-fits _ (omega arith) (start .pre .0), start .pre .2)
 
 before-read : {a b d e a′ b′ d′ e′ : ℕ} → a ≡ a′ → b ≡ b′ → d ≡ d′ → e ≡ e′ → before (a′, b′) (d′, e′) ≡ before (a, b) (d, e)
 before-read p q r s = rw (p, q, r, s) refl
 
 returns : tie.Need-returns Inv-loop μ-loop
 returns c =
-    let t = c .before .before .before .before in
-    let s = t .before in
+    let s : tie.In-loop Inv-loop μ-loop = search in
     sym (s .before .loop .inv .1 ∙ chained-fail _ _ _ _ (s .loop-test .taken)
-    (before-read (t .field-at .ensures) (c .before .before .before .field-at2 .ensures) (c .before .before .field-at3 .ensures) (c .before .field-at4 .ensures) ∙ not-true _ (c .if1 .taken)))
+    (before-read (c .before .before .before .before .field-at .ensures) (c .before .before .before .field-at2 .ensures) (c .before .before .field-at3 .ensures) (c .before .field-at4 .ensures) ∙ not-true _ (c .if1 .taken)))
 
 loop-again : tie.Need-loop-again Inv-loop μ-loop
 loop-again c =
-    let t = c .before .before .before .before in
-    let s = t .before in (
+    let s : tie.In-loop Inv-loop μ-loop = search in (
       omega arith,
       s .before .loop .inv .1 ∙ chained-pass _ _ _ _ (s .loop-test .taken)
-          (before-read (t .field-at .ensures) (c .before .before .before .field-at2 .ensures) (c .before .before .field-at3 .ensures) (c .before .field-at4 .ensures) ∙ not-false _ (c .if1 .left)),
+          (before-read (c .before .before .before .before .field-at .ensures) (c .before .before .before .field-at2 .ensures) (c .before .before .field-at3 .ensures) (c .before .field-at4 .ensures) ∙ not-false _ (c .if1 .left)),
     )
 
 returns-2 : tie.Need-returns-2 Inv-loop μ-loop

@@ -15,8 +15,9 @@ field-at-requires-2 c κs = let s = c .before .before .before .pre in (record-fi
 
 mul-result : tie.Need-mul-result
 mul-result c =
-    let s = c .before .before .before .before .before in
-    let a = s .before .before .before .args in
+    let s : tie.After-field-at = search in
+    let start : tie.Start = search in
+    let a = start .args in
     let h : a .x - s .field-at .result ≤ 4294967295 = omega arith in
     omega (arith, mul-le-mul-right (a .n) h)
 

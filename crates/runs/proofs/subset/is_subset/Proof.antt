@@ -23,19 +23,19 @@ returns c = sym (c .before .before .loop .inv .2 ∙ inside-past _ _ _ _ (c .bef
 
 returns-2 : tie.Need-returns-2 Inv-loop μ-loop
 returns-2 c =
-    let s = c .before .before .before in
+    let s : tie.Else1 Inv-loop μ-loop = search in
     let p = s .before .before .before .pre in
     sym (s .before .before .loop .inv .2 ∙ inside-less _ _ _ _ (s .before .loop-test .taken) (p .0) (p .1) (s .if1 .left) (c .if2 .taken))
 
 loop-again : tie.Need-loop-again Inv-loop μ-loop
 loop-again c =
-    let s = c .before .before .before .before in
+    let s : tie.Else1 Inv-loop μ-loop = search in
     let p = s .before .before .before .pre in
     (omega arith, omega arith, s .before .before .loop .inv .2 ∙ inside-same _ _ _ _ (s .before .loop-test .taken) (p .0) (p .1) (s .if1 .left) (c .if3 .taken))
 
 loop-again-2 : tie.Need-loop-again-2 Inv-loop μ-loop
 loop-again-2 c =
-    let s = c .before .before .before .before in
+    let s : tie.Else1 Inv-loop μ-loop = search in
     let p = s .before .before .before .pre in
     (omega arith, omega arith, s .before .before .loop .inv .2 ∙ inside-more _ _ _ _ (s .before .loop-test .taken) (p .0) (p .1) (s .if1 .left) (omega (arith, c .if3 .left)))
 

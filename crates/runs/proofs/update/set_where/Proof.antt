@@ -1,6 +1,6 @@
 -- `set_where` meets its contract: a turn sets the word that the definition sets in the record, or leaves the record as the definition does.
 use borrow.Author.Needs.{needs}
-use Prim.Native.Nat.{_-_, _≤_}
+use Prim.Native.Nat.{_*_, _-_, _≤_}
 use mathlib.Core.Path.{_≡_, refl, sym, ap, _∙_}
 use native.Mathlib.Omega.{arith}
 use lib.ListN.{length, length-set}
@@ -20,40 +20,46 @@ abbrev μ-loop : tie.MeasureT-loop
 loop-holds : tie.Need-loop-holds Inv-loop μ-loop
 loop-holds c = (omega arith, refl, changing-start _ _ _ _)
 
+abbrev begun : tie.In-loop Inv-loop μ-loop → tie.Start Inv-loop μ-loop
+begun c = search
+
+-- the n records lie within the run
+lent : (c : tie.In-loop Inv-loop μ-loop) → begun c .args .size * begun c .args .n ≤ length (c .before .loop .w)
+lent c = omega (arith, begun c .pre .0, c .before .loop .inv .1)
+
 field-at-requires : tie.Need-field-at-requires Inv-loop μ-loop
-field-at-requires c κs =
-    let s = c .before .before in
-    let p = s .before .before .pre in
-    (record-fits _ (c .before .loop-test .taken) (omega (arith, p .0, s .loop .inv .1)), p .1)
+field-at-requires c κs = (record-fits _ (c .before .loop-test .taken) (lent (c .before)), begun (c .before) .pre .1)
 
 field-at-requires-2 : tie.Need-field-at-requires-2 Inv-loop μ-loop
 field-at-requires-2 c κs =
-    let s = c .before .before .before .before in
-    let p = s .before .before .pre in
-    (record-fits _ (c .before .before .before .loop-test .taken) (omega (arith, p .0, s .loop .inv .1)), p .2)
+    let turn : tie.In-loop Inv-loop μ-loop = search in
+    (record-fits _ (turn .loop-test .taken) (lent turn), begun turn .pre .2)
 
 set-field-requires : tie.Need-set-field-requires Inv-loop μ-loop
 set-field-requires c κs =
-    let s = c .before .before .before .before .before .before .before in
-    let p = s .before .before .pre in
-    (record-fits _ (c .before .before .before .before .before .before .loop-test .taken) (omega (arith, p .0, s .loop .inv .1)), p .2)
+    let turn : tie.In-loop Inv-loop μ-loop = search in
+    (record-fits _ (turn .loop-test .taken) (lent turn), begun turn .pre .2)
 
 loop-again : tie.Need-loop-again Inv-loop μ-loop
 loop-again c =
-    let s = c .before .before .before .before .before .before .before .before .before .before in
-    let p = s .before .before .pre in
+    let second : tie.After-field-at2 Inv-loop μ-loop = search in
+    let first : tie.After-field-at Inv-loop μ-loop = search in
+    let turn : tie.In-loop Inv-loop μ-loop = search in
+    let l = turn .before .loop .inv in
+    let p = begun turn .pre in
     let e = c .before .before .set-field .ensures in (
       omega arith,
-      ap length e ∙ simp length-set (s .loop .inv .1),
-      s .loop .inv .2 ∙ set-next _ _ _ _ _ _ _ (p .1) (p .2) _ _ (c .before .before .before .before .before .before .before .before .before .loop-test .taken) (omega (arith, p .0, s .loop .inv .1)) _
-          (c .before .before .before .before .before .before .before .field-at .ensures) (c .before .before .before .before .before .field-at2 .ensures) (c .before .before .before .before .if1 .taken) e,
+      ap length e ∙ simp length-set (l .1),
+      l .2 ∙ set-next _ _ _ _ _ _ _ (p .1) (p .2) _ _ (turn .loop-test .taken) (lent turn) _
+          (first .field-at .ensures) (second .field-at2 .ensures) (c .before .before .before .before .if1 .taken) e,
     )
 
 loop-again-2 : tie.Need-loop-again-2 Inv-loop μ-loop
 loop-again-2 c =
-    let s = c .before .before .before .before .before .before in
-    let p = s .before .before .pre in
-    (omega arith, s .loop .inv .1, s .loop .inv .2 ∙ keep-next _ _ _ _ _ _ _ (p .1) (p .2) _ _ (c .before .before .before .before .before .loop-test .taken) (omega (arith, p .0, s .loop .inv .1)) (c .before .before .before .field-at .ensures) (c .before .field-at2 .ensures) (c .if1 .left))
+    let turn : tie.In-loop Inv-loop μ-loop = search in
+    let l = turn .before .loop .inv in
+    let p = begun turn .pre in
+    (omega arith, l .1, l .2 ∙ keep-next _ _ _ _ _ _ _ (p .1) (p .2) _ _ (turn .loop-test .taken) (lent turn) (c .before .before .before .field-at .ensures) (c .before .field-at2 .ensures) (c .if1 .left))
 
 same-length : tie.Need-same-length Inv-loop μ-loop
 same-length c = c .before .loop .inv .1
