@@ -26,28 +26,34 @@ loop-holds : tie.Need-loop-holds Inv-loop μ-loop
 loop-holds c = (omega arith, all-start _ _ _)
 
 delete-file-at-requires : tie.Need-delete-file-at-requires Inv-loop μ-loop
-delete-file-at-requires c κs = record-fits deleteFileSize (c .loop-test .taken) (c .before .before .before .before .before .before .pre .1 .held .lent)
+delete-file-at-requires c κs =
+    let start : tie.Start Inv-loop μ-loop = search in
+    record-fits deleteFileSize (c .loop-test .taken) (start .pre .1 .held .lent)
 
 shared-slice-read-positions-of : tie.Need-shared-slice-read-positions-of Inv-loop μ-loop
 shared-slice-read-positions-of c =
-    let s = c .before .before in located-from _ _ _ _ (s .before .before .before .before .before .before .pre .1) (s .loop-test .taken) .0
+    let start : tie.Start Inv-loop μ-loop = search in
+    let turn : tie.In-loop Inv-loop μ-loop = search in
+    located-from _ _ _ _ (start .pre .1) (turn .loop-test .taken) .0
 
 positions-of-requires : tie.Need-positions-of-requires Inv-loop μ-loop
 positions-of-requires c κs =
-    let s = c .before .before in located-from _ _ _ _ (s .before .before .before .before .before .before .pre .1) (s .loop-test .taken) .1
+    let start : tie.Start Inv-loop μ-loop = search in
+    let turn : tie.In-loop Inv-loop μ-loop = search in
+    located-from _ _ _ _ (start .pre .1) (turn .loop-test .taken) .1
 
 returns : tie.Need-returns Inv-loop μ-loop
 returns c =
-    let s = c .before .before .before .before in
-    sym (s .before .before .loop .inv .1
-    ∙ all-failed _ _ _ _ (s .before .loop-test .taken) (read-sound _ (s .delete-file-at .ensures) (c .before .before .positions-of .ensures) (c .before .positions-sound .ensures)) (c .if1 .taken))
+    let read : tie.After-delete-file-at Inv-loop μ-loop = search in
+    sym (read .before .before .loop .inv .1
+    ∙ all-failed _ _ _ _ (read .before .loop-test .taken) (read-sound _ (read .delete-file-at .ensures) (c .before .before .positions-of .ensures) (c .before .positions-sound .ensures)) (c .if1 .taken))
 
 loop-again : tie.Need-loop-again Inv-loop μ-loop
 loop-again c =
-    let s = c .before .before .before .before in (
+    let read : tie.After-delete-file-at Inv-loop μ-loop = search in (
       omega arith,
-      s .before .before .loop .inv .1
-          ∙ all-passed _ _ _ _ (s .before .loop-test .taken) (read-sound _ (s .delete-file-at .ensures) (c .before .before .positions-of .ensures) (c .before .positions-sound .ensures)) (c .if1 .left),
+      read .before .before .loop .inv .1
+          ∙ all-passed _ _ _ _ (read .before .loop-test .taken) (read-sound _ (read .delete-file-at .ensures) (c .before .before .positions-of .ensures) (c .before .positions-sound .ensures)) (c .if1 .left),
     )
 
 returns-2 : tie.Need-returns-2 Inv-loop μ-loop

@@ -4,19 +4,24 @@ use Rattle.soundness_deletes.proofs.DeleteOrder.{within-permuted, delet
 use Rattle.soundness_deletes.proofs.deletes.delete_files_apart_by.Statement.{statement}
 use Rattle.soundness_deletes.proofs.deletes.delete_files_apart_by.Tie as tie
 
+-- a place further back than a search goes
+abbrev begun : tie.After-sort-places → tie.Start
+begun c = search
+
 neighbours-apart-requires : tie.Need-neighbours-apart-requires
 neighbours-apart-requires c κs =
-    let s = c .before .before .before .before .before in
-    let p = s .before .before .before .before .before .before .before .before .before .before .before .before .before .before .before .before .before .before .pre in
-    (p .comparable .positionsComparable, within-permuted _ _ (rw (p .places) at (s .sort-places .ensures .1)))
+    let sorted : tie.After-sort-places = search in
+    let p = begun sorted .pre in
+    (p .comparable .positionsComparable, within-permuted _ _ (rw (p .places) at (sorted .sort-places .ensures .1)))
 
 returns : tie.Need-returns
 returns c =
-    let s = c .before .before .before .before .before .before in
-    let second = s .before .before .before .before .before .before in
-    let first = second .before .before .before .before in
-    let p = first .before .before .before .before .before .before .before .before .pre in
-    deletes-sorted _ _ _ (first .put-words .ensures) (second .put-words2 .ensures) (p .comparable .lives) (p .places) (s .sort-places .ensures .1) (s .sort-places .ensures .2) (c .neighbours-apart .ensures)
+    let sorted : tie.After-sort-places = search in
+    let second : tie.After-put-words2 = search in
+    let first : tie.After-put-words = search in
+    let p = begun sorted .pre in
+    let s = sorted .sort-places .ensures in
+    deletes-sorted _ _ _ (first .put-words .ensures) (second .put-words2 .ensures) (p .comparable .lives) (p .places) (s .1) (s .2) (c .neighbours-apart .ensures)
 
 pub delete-files-apart-by-spec : {M : Type 1} → statement M
 delete-files-apart-by-spec =

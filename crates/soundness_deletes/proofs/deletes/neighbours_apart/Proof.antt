@@ -24,9 +24,10 @@ loop-holds c = (omega arith, refl)
 
 delete-files-apart-requires : tie.Need-delete-files-apart-requires Inv-loop μ-loop
 delete-files-apart-requires c κs =
-    let s = c .before .before in
-    let p = s .before .before .before .before .before .before .pre in
-    (comparable-at _ _ _ _ (p .0) (within-at _ _ _ (p .1) (omega (arith, s .loop-test .taken))), comparable-at _ _ _ _ (p .0) (within-at _ _ _ (p .1) (s .loop-test .taken)))
+    let start : tie.Start Inv-loop μ-loop = search in
+    let turn : tie.In-loop Inv-loop μ-loop = search in
+    let p = start .pre in
+    (comparable-at _ _ _ _ (p .0) (within-at _ _ _ (p .1) (omega (arith, turn .loop-test .taken))), comparable-at _ _ _ _ (p .0) (within-at _ _ _ (p .1) (turn .loop-test .taken)))
 
 returns : tie.Need-returns Inv-loop μ-loop
 returns c =

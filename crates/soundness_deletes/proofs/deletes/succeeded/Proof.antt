@@ -11,23 +11,23 @@ use Rattle.soundness_deletes.proofs.deletes.succeeded.Tie as tie
 returns : tie.Need-returns
 unfolding field
 returns c =
-    let s = c .before .before .before in
-    sym (succeeded-not _ _ (ap (λ l. l .end .0) (s .before .life-at .ensures)) (ap (λ l. l .begin .0) (s .life-at2 .ensures)) (c .if1 .taken))
+    let lives : tie.After-life-at2 = search in
+    sym (succeeded-not _ _ (ap (λ l. l .end .0) (lives .before .life-at .ensures)) (ap (λ l. l .begin .0) (lives .life-at2 .ensures)) (c .if1 .taken))
 
 is-subset-requires : tie.Need-is-subset-requires
 is-subset-requires c κs =
-    let s = c .before .before in
-    let p = s .before .before .before .before .before .before .before .before .before .before .pre in
-    (ap (chained ltb) (s .positions-of .ensures) ∙ p .0 .ascend, ap (chained ltb) (c .positions-of2 .ensures) ∙ p .1 .ascend)
+    let start : tie.Start = search in
+    let first : tie.After-positions-of = search in
+    (ap (chained ltb) (first .positions-of .ensures) ∙ start .pre .0 .ascend, ap (chained ltb) (c .positions-of2 .ensures) ∙ start .pre .1 .ascend)
 
 returns-2 : tie.Need-returns-2
 unfolding field
 returns-2 c =
-    let t = c .before .before .before in
-    let u = t .before .before in
-    let s = u .before .before .before in
+    let positions : tie.After-positions-of = search in
+    let meet : tie.Else1 = search in
+    let lives : tie.After-life-at2 = search in
     c .is-subset .ensures
-    ∙ sym (succeeded-is _ _ (ap (λ l. l .end .0) (s .before .life-at .ensures)) (ap (λ l. l .begin .0) (s .life-at2 .ensures)) (u .if1 .left) (t .positions-of .ensures) (c .before .positions-of2 .ensures))
+    ∙ sym (succeeded-is _ _ (ap (λ l. l .end .0) (lives .before .life-at .ensures)) (ap (λ l. l .begin .0) (lives .life-at2 .ensures)) (meet .if1 .left) (positions .positions-of .ensures) (c .before .positions-of2 .ensures))
 
 pub succeeded-spec : {M : Type 1} → statement M
 succeeded-spec =

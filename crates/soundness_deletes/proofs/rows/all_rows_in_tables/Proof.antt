@@ -31,7 +31,8 @@ data-file-at-requires c κs = record-fits dataFileSize (c .if1 .taken) (c .befor
 
 rows-in-table-requires : tie.Need-rows-in-table-requires Inv-loop μ-loop
 rows-in-table-requires c κs =
-    let p = c .before .before .before .before .before .before .pre in (p .tablesById, in-range-at p (c .before .if1 .taken) (c .data-file-at .ensures))
+    let start : tie.Start Inv-loop μ-loop = search in
+    (start .pre .tablesById, in-range-at (start .pre) (c .before .if1 .taken) (c .data-file-at .ensures))
 
 returns : tie.Need-returns Inv-loop μ-loop
 returns c names =

@@ -29,44 +29,45 @@ data-file-at-requires c κs = record-fits dataFileSize (c .if1 .taken) (c .befor
 
 returns : tie.Need-returns Inv-loop μ-loop
 returns c =
-    let s = c .before .before in
-    let l = s .before .before in
-    let p = l .before .before .before .before .before .pre in
-    absurd (ascend-found (p .0) (p .1) (l .if1 .taken) (s .before .data-file-at .ensures) (s .find-table .ensures) (c .enum-told .given .1))
+    let sought : tie.After-find-table Inv-loop μ-loop = search in
+    let turn : tie.Then1 Inv-loop μ-loop = search in
+    let start : tie.Start Inv-loop μ-loop = search in
+    absurd (ascend-found (start .pre .0) (start .pre .1) (turn .if1 .taken) (sought .before .data-file-at .ensures) (sought .find-table .ensures) (c .enum-told .given .1))
 
 -- the place found lies among the notes
 in-table : (c : tie.After-known-told Inv-loop μ-loop) → c .before .found .given .0 .0 < tableLimit
 in-table c =
-    let s = c .before .before .before in
-    let l = s .before .before in
-    let p = l .before .before .before .before .before .pre in
-    slot (p .0) (p .1) (l .if1 .taken) (s .before .data-file-at .ensures) (s .find-table .ensures) (c .before .found .given .1)
+    let sought : tie.After-find-table Inv-loop μ-loop = search in
+    let turn : tie.Then1 Inv-loop μ-loop = search in
+    let start : tie.Start Inv-loop μ-loop = search in
+    slot (start .pre .0) (start .pre .1) (turn .if1 .taken) (sought .before .data-file-at .ensures) (sought .find-table .ensures) (c .before .found .given .1)
 
 returns-2 : tie.Need-returns-2 Inv-loop μ-loop
 returns-2 c =
-    let f = c .before .before .before in
-    let s = f .before .before in
-    let l = s .before .before in
-    let p = l .before .before .before .before .before .pre in
-    sym (l .before .before .loop .inv .2
-    ∙ ascend-fail (p .0) (p .1) (l .if1 .taken) (s .before .data-file-at .ensures) (s .find-table .ensures) (f .found .given .1) _ (c .if2 .taken))
+    let found : tie.After-found Inv-loop μ-loop = search in
+    let sought : tie.After-find-table Inv-loop μ-loop = search in
+    let turn : tie.Then1 Inv-loop μ-loop = search in
+    let start : tie.Start Inv-loop μ-loop = search in
+    sym (turn .before .before .loop .inv .2
+    ∙ ascend-fail (start .pre .0) (start .pre .1) (turn .if1 .taken) (sought .before .data-file-at .ensures) (sought .find-table .ensures) (found .found .given .1) _ (c .if2 .taken))
 
 row-id-end-requires : tie.Need-row-id-end-requires Inv-loop μ-loop
 row-id-end-requires c κs =
-    let s = c .before .before .before .before .before .before in
-    in-range-at (s .before .before .before .before .before .before .pre .0) (s .before .if1 .taken) (s .data-file-at .ensures)
+    let read : tie.After-data-file-at Inv-loop μ-loop = search in
+    let start : tie.Start Inv-loop μ-loop = search in
+    in-range-at (start .pre .0) (read .before .if1 .taken) (read .data-file-at .ensures)
 
 loop-again : tie.Need-loop-again Inv-loop μ-loop
 loop-again c =
-    let f = c .before .before .before .before in
-    let s = f .before .before in
-    let l = s .before .before in
-    let p = l .before .before .before .before .before .pre in
-    let v = l .before .before .loop .inv in (
-      omega (arith, l .if1 .taken),
+    let told : tie.After-known-told Inv-loop μ-loop = search in
+    let sought : tie.After-find-table Inv-loop μ-loop = search in
+    let turn : tie.Then1 Inv-loop μ-loop = search in
+    let start : tie.Start Inv-loop μ-loop = search in
+    let v = turn .before .before .loop .inv in (
+      omega (arith, turn .if1 .taken),
       simp length-set (v .1),
-      v .2 ∙ ascend-pass (p .0) (p .1) (l .if1 .taken) (s .before .data-file-at .ensures) (s .find-table .ensures) (f .found .given .1) _
-          (omega (arith, v .1, in-table (c .before .before .before))) (c .row-id-end .ensures) (c .before .if2 .left),
+      v .2 ∙ ascend-pass (start .pre .0) (start .pre .1) (turn .if1 .taken) (sought .before .data-file-at .ensures) (sought .find-table .ensures) (told .before .found .given .1) _
+          (omega (arith, v .1, in-table told)) (c .row-id-end .ensures) (c .before .if2 .left),
     )
 
 returns-3 : tie.Need-returns-3 Inv-loop μ-loop
@@ -76,4 +77,4 @@ pub rows-ascend-spec : {M : Type 1} → statement M
 rows-ascend-spec =
     tie.close
     (tie.spec Inv-loop μ-loop loop-holds data-file-at-requires (λ c κs. search needs) (λ c. search needs) (λ c. search needs) returns (λ c. omega (arith, in-table c)) in-table returns-2 row-id-end-requires
-    (λ c. omega (arith, in-table (c .before .before .before))) (λ c. in-table (c .before .before .before)) (λ c. let l = c .before .before .before .before .before .before .before .before in omega (arith, l .if1 .taken, l .before .struct-known .given)) (λ c. search needs) loop-again returns-3)
+    (λ c. omega (arith, in-table (c .before .before .before))) (λ c. in-table (c .before .before .before)) (λ c. let turn : tie.Then1 Inv-loop μ-loop = search in omega (arith, turn .if1 .taken, turn .before .struct-known .given)) (λ c. search needs) loop-again returns-3)

@@ -20,7 +20,7 @@ tested ns l e f = rw (e, f) refl
 
 returns : tie.Need-returns
 returns c =
-    let s = c .before .before .before .before .before .before in
+    let s : tie.After-is-live-at-some = search in
     tested _ (s .before .before .before .args .l) (s .before .latest-snapshot .ensures) (s .is-live-at-some .ensures)
 
 pub life-sound-spec : {M : Type 1} → statement M
