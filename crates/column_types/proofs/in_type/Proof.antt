@@ -17,15 +17,17 @@ returns-2 c = rw (in-type, le-leb _ _ (c .before .if1 .left), lt-leb _ _ (c .if2
 returns-3 : tie.Need-returns-3
 unfolding types
 returns-3 c =
-    let s = c .before .before .before .before .before .before .before in
+    let known : tie.Else1 = search in
+    let within : tie.Else2 = search in
+    let start : tie.Start = search in
     let t = c .struct-told2 .given in
     rw (
       in-type,
-      le-leb _ _ (c .before .before .before .before .before .before .if1 .left),
-      le-leb _ _ (c .before .before .before .before .before .if2 .left),
-      toZ-ofZ (s .fits .v),
-      toZ-ofZ {z = typeAt (s .args .code) .low} (record { sfits = t .1 .0 .1 }),
-      toZ-ofZ {z = typeAt (s .args .code) .high} (record { sfits = t .1 .1 .0 .1 }),
+      le-leb _ _ (known .if1 .left),
+      le-leb _ _ (within .if2 .left),
+      toZ-ofZ (start .fits .v),
+      toZ-ofZ {z = typeAt (start .args .code) .low} (record { sfits = t .1 .0 .1 }),
+      toZ-ofZ {z = typeAt (start .args .code) .high} (record { sfits = t .1 .1 .0 .1 }),
     ) refl
 
 pub in-type-spec : {M : Type 1} → statement M

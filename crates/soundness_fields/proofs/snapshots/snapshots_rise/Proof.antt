@@ -28,7 +28,9 @@ unfolding snapshotsRise range any
 returns c = sym (ap (λ n. snapshotsRise (snapshotsIn (c .before .before .args .snapshots .now) n)) (c .if1 .taken))
 
 returns-2 : tie.Need-returns-2
-returns-2 c = rises (c .before .before .before .before .before .before .args .snapshots .now) _ (omega arith) (c .before .before .before .latest-snapshot .ensures) (c .before .snapshots-follow .ensures) (c .changes-sound .ensures)
+returns-2 c =
+    let start : tie.Start = search in
+    rises (start .args .snapshots .now) _ (omega arith) (c .before .before .before .latest-snapshot .ensures) (c .before .snapshots-follow .ensures) (c .changes-sound .ensures)
 
 pub snapshots-rise-spec : {M : Type 1} → statement M
 snapshots-rise-spec =

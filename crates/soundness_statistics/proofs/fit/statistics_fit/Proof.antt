@@ -8,7 +8,7 @@ use Rattle.soundness_statistics.proofs.fit.statistics_fit.Tie as tie
 returns : tie.Need-returns
 unfolding statisticsFit
 returns c name =
-    let s = c .before .before .before .before .before .before .before .before .before .before in
+    let s : tie.After-bound-at-most = search in
     rw (s .before .before .bound-fits .ensures, s .before .bound-fits2 .ensures, s .bound-at-most .ensures) refl
 
 pub statistics-fit-spec : {M : Type 1} → statement M

@@ -28,17 +28,19 @@ loop-holds : tie.Need-loop-holds Inv-loop μ-loop
 loop-holds c = (omega arith, λ names. all-start _ _ _)
 
 data-file-at-requires : tie.Need-data-file-at-requires Inv-loop μ-loop
-data-file-at-requires c κs = record-fits dataFileSize (c .if1 .taken) (c .before .before .before .before .before .before .pre .dataFilesById .lent)
+data-file-at-requires c κs =
+    let start : tie.Start Inv-loop μ-loop = search in
+    record-fits dataFileSize (c .if1 .taken) (start .pre .dataFilesById .lent)
 
 returns : tie.Need-returns Inv-loop μ-loop
 returns c names =
-    let s = c .before .before .before in
+    let s : tie.After-data-file-at Inv-loop μ-loop = search in
     sym (s .before .before .before .loop .inv .1 names
     ∙ all-failed _ _ _ _ (s .before .if1 .taken) (file-read _ _ (s .data-file-at .ensures) (c .before .file-statistics-sound .ensures names)) (c .if2 .taken))
 
 loop-again : tie.Need-loop-again Inv-loop μ-loop
 loop-again c =
-    let s = c .before .before .before in (
+    let s : tie.After-data-file-at Inv-loop μ-loop = search in (
       omega (arith, s .before .if1 .taken),
       λ names. s .before .before .before .loop .inv .1 names
           ∙ all-passed _ _ _ _ (s .before .if1 .taken) (file-read _ _ (s .data-file-at .ensures) (c .before .file-statistics-sound .ensures names)) (c .if2 .left),

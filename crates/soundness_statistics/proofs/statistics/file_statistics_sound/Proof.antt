@@ -31,34 +31,36 @@ loop-holds c =
 
 column-at-requires : tie.Need-column-at-requires Inv-loop μ-loop
 column-at-requires c κs =
-    let s = c .before .before in
-    record-fits columnSize (lt-of-lt-of-le (c .if1 .taken) (s .loop .inv .1)) (s .before .before .before .before .pre .0 .lent)
+    let l : tie.At-loop Inv-loop μ-loop = search in
+    let start : tie.Start Inv-loop μ-loop = search in
+    record-fits columnSize (lt-of-lt-of-le (c .if1 .taken) (l .loop .inv .1)) (start .pre .0 .lent)
 
 returns : tie.Need-returns Inv-loop μ-loop
 returns c names =
-    let s = c .before .before .before in
-    let l = s .before .before .before .before in
+    let s : tie.After-statistics-wanted Inv-loop μ-loop = search in
+    let l : tie.At-loop Inv-loop μ-loop = search in
     sym (l .loop .inv .4 names
     ∙ judged-short _ names _ _ _ _ _ _ _ (s .before .before .if1 .taken) (s .before .column-at .ensures) (s .statistics-wanted .ensures) (c .before .before .if2 .taken) (c .if3 .taken))
 
 statistics-at-requires : tie.Need-statistics-at-requires Inv-loop μ-loop
 statistics-at-requires c κs =
-    let s = c .before .before .before .before .before .before .before in
-    record-fits statisticsSize (lt-of-lt-of-le (c .if3 .left) (s .loop .inv .3)) (s .before .before .before .before .pre .1 .lent)
+    let l : tie.At-loop Inv-loop μ-loop = search in
+    let start : tie.Start Inv-loop μ-loop = search in
+    record-fits statisticsSize (lt-of-lt-of-le (c .if3 .left) (l .loop .inv .3)) (start .pre .1 .lent)
 
 returns-2 : tie.Need-returns-2 Inv-loop μ-loop
 returns-2 c names =
-    let t = c .before .before .before in
-    let s = t .before .before .before in
-    let l = s .before .before .before .before in
+    let t : tie.Else3 Inv-loop μ-loop = search in
+    let s : tie.After-statistics-wanted Inv-loop μ-loop = search in
+    let l : tie.At-loop Inv-loop μ-loop = search in
     sym (l .loop .inv .4 names
     ∙ judged-fail _ names _ _ _ _ _ _ _ (s .before .before .if1 .taken) (s .before .column-at .ensures) (s .statistics-wanted .ensures) (t .before .before .if2 .taken) (t .if3 .left)
     (c .before .before .statistics-at .ensures) (c .before .statistics-fit .ensures) (c .if4 .taken))
 
 loop-again : tie.Need-loop-again Inv-loop μ-loop
 loop-again c =
-    let t = c .before .before .before in
-    let s = t .before .before .before in
+    let t : tie.Else3 Inv-loop μ-loop = search in
+    let s : tie.After-statistics-wanted Inv-loop μ-loop = search in
     let l = s .before .before .before .before .loop .inv in (
       omega (arith, s .before .before .if1 .taken),
       l .1,
