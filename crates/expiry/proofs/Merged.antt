@@ -82,62 +82,76 @@ module _ (dataRun : List ℕ) (n : ℕ) (deleteRun : List ℕ) (k : ℕ) (ids : 
 pub scheduling : List ℕ → ℕ → List ℕ → ℕ → List ℕ → ℕ → List ℕ → ℕ → ℕ → ℕ → List ℕ × ℕ
 scheduling dataRun n deleteRun k ids time u at i j = laying fileWords scheduledSize (files dataRun n deleteRun k ids time i j) u at
 
-module _ {dataRun : List ℕ} {n : ℕ} {deleteRun : List ℕ} {k : ℕ} {left : List ℕ} {m : ℕ} (F : Files dataRun n deleteRun k left m) (time : ℕ) (u₀ : List ℕ) (used : ℕ)
-    (room : scheduledSize * (used + length (removedFiles dataRun n deleteRun k (idsIn left m) time)) ≤ length u₀) (u : List ℕ) (at i j : ℕ) (same : length u ≡ length u₀)
-    (inv : scheduling dataRun n deleteRun k (idsIn left m) time u₀ used 0 0 ≡ scheduling dataRun n deleteRun k (idsIn left m) time u at i j) where
+-- what a turn stands on: there is room for all files that go, and what is left to do from i and j on comes to the whole
+pub record Turn (dataRun : List ℕ) (n : ℕ) (deleteRun : List ℕ) (k : ℕ) (left : List ℕ) (m time : ℕ) (u₀ : List ℕ) (used : ℕ) (u : List ℕ) (at i j : ℕ) : Type 0 where
+  pub tables : Files dataRun n deleteRun k left m
+  pub room : scheduledSize * (used + length (removedFiles dataRun n deleteRun k (idsIn left m) time)) ≤ length u₀
+  pub dataFilesLeft : i ≤ n
+  pub deleteFilesLeft : j ≤ k
+  pub sameLength : length u ≡ length u₀
+  pub comesTo : scheduling dataRun n deleteRun k (idsIn left m) time u₀ used 0 0 ≡ scheduling dataRun n deleteRun k (idsIn left m) time u at i j
+
+module _ {dataRun : List ℕ} {n : ℕ} {deleteRun : List ℕ} {k : ℕ} {left : List ℕ} {m time : ℕ} {u₀ : List ℕ} {used : ℕ} {u : List ℕ} {at i j : ℕ}
+    (T : Turn dataRun n deleteRun k left m time u₀ used u at i j) where
+  data-ids : chained ltb (fields dataFileSize dataFileIdWord dataRun n) ≡ true
+  data-ids = T .tables .dataFilesById .ascending
+
+  delete-ids : chained ltb (fields deleteFileSize deleteFileIdWord deleteRun k) ≡ true
+  delete-ids = T .tables .deleteFilesById .ascending
+
   next-fits : {x : Scheduled} {xs : List Scheduled} → files dataRun n deleteRun k (idsIn left m) time i j ≡ x ∷ xs → scheduledSize * at + scheduledSize ≤ length u
   unfolding scheduling
   next-fits e =
-      omega (arith, ap length (files-start dataRun n deleteRun k (idsIn left m) time), laying-room fileWords scheduledSize (files dataRun n deleteRun k (idsIn left m) time 0 0) u₀ u used at inv e)
+      omega (arith, T .room, T .sameLength, ap length (files-start dataRun n deleteRun k (idsIn left m) time), laying-room fileWords scheduledSize (files dataRun n deleteRun k (idsIn left m) time 0 0) u₀ u used at (T .comesTo) e)
 
   module _ {r : Bool} (e : r ≡ firstNext (field dataFileSize dataFileIdWord dataRun) i n (field deleteFileSize deleteFileIdWord deleteRun) j k) where
     -- the next is a data file
     module _ (t : r ≡ true) where
       pub next-data-file : i < n
-      next-data-file = data-below dataRun n deleteRun k (idsIn left m) time (F .dataFilesById .ascending) (F .deleteFilesById .ascending) i j e t
+      next-data-file = data-below dataRun n deleteRun k (idsIn left m) time data-ids delete-ids i j e t
 
       module _ {l : Bool} (s : l ≡ stays dataFileSize dataFileBeginWord dataRun (idsIn left m) i) where
         pub data-file-fits : not l ≡ true → scheduledSize * at + scheduledSize ≤ length u
-        data-file-fits h = next-fits (data-goes dataRun n deleteRun k (idsIn left m) time (F .dataFilesById .ascending) (F .deleteFilesById .ascending) i j e t s h)
+        data-file-fits h = next-fits (data-goes dataRun n deleteRun k (idsIn left m) time data-ids delete-ids i j e t s h)
 
         pub data-file-scheduled : not l ≡ true → (v : List ℕ) → v ≡ overwrite u (scheduledSize * at) (fileWords (dataFileScheduled dataRun time i))
             → scheduling dataRun n deleteRun k (idsIn left m) time u₀ used 0 0 ≡ scheduling dataRun n deleteRun k (idsIn left m) time v (at + 1) (i + 1) j
         unfolding scheduling
         data-file-scheduled h v d =
-            inv ∙ laying-one fileWords scheduledSize u v at (data-goes dataRun n deleteRun k (idsIn left m) time (F .dataFilesById .ascending) (F .deleteFilesById .ascending) i j e t s h)
+            T .comesTo ∙ laying-one fileWords scheduledSize u v at (data-goes dataRun n deleteRun k (idsIn left m) time data-ids delete-ids i j e t s h)
             (words-size (dataFileScheduled dataRun time i)) (omega (arith, data-file-fits h)) d
 
         pub data-file-kept : not l ≡ false → scheduling dataRun n deleteRun k (idsIn left m) time u₀ used 0 0 ≡ scheduling dataRun n deleteRun k (idsIn left m) time u at (i + 1) j
         unfolding scheduling
         data-file-kept h =
-            inv ∙ ap (λ xs. laying fileWords scheduledSize xs u at) (data-stays dataRun n deleteRun k (idsIn left m) time (F .dataFilesById .ascending) (F .deleteFilesById .ascending) i j e t s h)
+            T .comesTo ∙ ap (λ xs. laying fileWords scheduledSize xs u at) (data-stays dataRun n deleteRun k (idsIn left m) time data-ids delete-ids i j e t s h)
 
     -- the next is a delete file
-    module _ (h : i ≤ n) (g : j ≤ k) (z : i + j < n + k) (t : r ≡ false) where
+    module _ (z : i + j < n + k) (t : r ≡ false) where
       pub next-delete-file : j < k
-      next-delete-file = delete-below dataRun n deleteRun k (idsIn left m) time (F .dataFilesById .ascending) (F .deleteFilesById .ascending) i j e h g z t
+      next-delete-file = delete-below dataRun n deleteRun k (idsIn left m) time data-ids delete-ids i j e (T .dataFilesLeft) (T .deleteFilesLeft) z t
 
       module _ {l : Bool} (s : l ≡ stays deleteFileSize deleteFileBeginWord deleteRun (idsIn left m) j) where
         pub delete-file-fits : not l ≡ true → scheduledSize * at + scheduledSize ≤ length u
-        delete-file-fits d = next-fits (delete-goes dataRun n deleteRun k (idsIn left m) time (F .dataFilesById .ascending) (F .deleteFilesById .ascending) i j e h g z t s d)
+        delete-file-fits d = next-fits (delete-goes dataRun n deleteRun k (idsIn left m) time data-ids delete-ids i j e (T .dataFilesLeft) (T .deleteFilesLeft) z t s d)
 
         pub delete-file-scheduled : not l ≡ true → (v : List ℕ) → v ≡ overwrite u (scheduledSize * at) (fileWords (deleteFileScheduled deleteRun time j))
             → scheduling dataRun n deleteRun k (idsIn left m) time u₀ used 0 0 ≡ scheduling dataRun n deleteRun k (idsIn left m) time v (at + 1) i (j + 1)
         unfolding scheduling
         delete-file-scheduled d v o =
-            inv ∙ laying-one fileWords scheduledSize u v at (delete-goes dataRun n deleteRun k (idsIn left m) time (F .dataFilesById .ascending) (F .deleteFilesById .ascending) i j e h g z t s d)
+            T .comesTo ∙ laying-one fileWords scheduledSize u v at (delete-goes dataRun n deleteRun k (idsIn left m) time data-ids delete-ids i j e (T .dataFilesLeft) (T .deleteFilesLeft) z t s d)
             (words-size (deleteFileScheduled deleteRun time j)) (omega (arith, delete-file-fits d)) o
 
         pub delete-file-kept : not l ≡ false → scheduling dataRun n deleteRun k (idsIn left m) time u₀ used 0 0 ≡ scheduling dataRun n deleteRun k (idsIn left m) time u at i (j + 1)
         unfolding scheduling
         delete-file-kept d =
-            inv ∙ ap (λ xs. laying fileWords scheduledSize xs u at) (delete-stays dataRun n deleteRun k (idsIn left m) time (F .dataFilesById .ascending) (F .deleteFilesById .ascending) i j e h g z t s d)
+            T .comesTo ∙ ap (λ xs. laying fileWords scheduledSize xs u at) (delete-stays dataRun n deleteRun k (idsIn left m) time data-ids delete-ids i j e (T .dataFilesLeft) (T .deleteFilesLeft) z t s d)
 
   -- no file is left
   pub scheduling-done : n ≤ i → k ≤ j → ScheduledMore (removedFiles dataRun n deleteRun k (idsIn left m) time) u₀ used at u
   unfolding scheduling
   scheduling-done h g =
-      let d = laying-done fileWords scheduledSize (files dataRun n deleteRun k (idsIn left m) time 0 0) u₀ u used at inv (files-end dataRun n deleteRun k (idsIn left m) time i j h g) in
+      let d = laying-done fileWords scheduledSize (files dataRun n deleteRun k (idsIn left m) time 0 0) u₀ u used at (T .comesTo) (files-end dataRun n deleteRun k (idsIn left m) time i j h g) in
       let s = files-start dataRun n deleteRun k (idsIn left m) time in
       record {
         count = d .0 ∙ ap (λ xs. used + length xs) (sym s);

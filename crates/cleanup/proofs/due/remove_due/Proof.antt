@@ -5,7 +5,9 @@ use Rattle.cleanup.proofs.due.remove_due.Statement.{statement}
 use Rattle.cleanup.proofs.due.remove_due.Tie as tie
 
 returns : tie.Need-returns
-returns c = let f = c .before .before .before .before .before .before .flag-later .ensures in compacted-as _ (λ j h. f .set j h) (c .before .before .keep-records .ensures)
+returns c =
+    let flagged : tie.After-flag-later = search in
+    compacted-as _ (λ j h. flagged .flag-later .ensures .set j h) (c .before .before .keep-records .ensures)
 
 pub remove-due-spec : {M : Type 1} → statement M
 remove-due-spec =

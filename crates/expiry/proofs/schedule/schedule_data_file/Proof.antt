@@ -10,8 +10,10 @@ use Rattle.expiry.proofs.schedule.schedule_data_file.Tie as tie
 
 returns : tie.Need-returns
 returns c =
-    let a = c .before .before .before .before .before .before .before .before .before .args in
-    c .before .before .write-scheduled .ensures ∙ ap (λ r. overwrite (a .scheduled .now) (scheduledSize * a .at) (scheduledWords (record { file = r .id; uuid = r .uuid; «schedule_start» = a .time }))) (c .before .before .before .before .before .before .data-file-at .ensures)
+    let read : tie.After-data-file-at = search in
+    let start : tie.Start = search in
+    let a = start .args in
+    c .before .before .write-scheduled .ensures ∙ ap (λ r. overwrite (a .scheduled .now) (scheduledSize * a .at) (scheduledWords (record { file = r .id; uuid = r .uuid; «schedule_start» = a .time }))) (read .data-file-at .ensures)
 
 pub schedule-data-file-spec : {M : Type 1} → statement M
 schedule-data-file-spec =

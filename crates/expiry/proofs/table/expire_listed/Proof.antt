@@ -5,7 +5,9 @@ use Rattle.expiry.proofs.table.expire_listed.Statement.{statement}
 use Rattle.expiry.proofs.table.expire_listed.Tie as tie
 
 returns : tie.Need-returns
-returns c = let f = c .before .before .before .before .before .before .flag-snapshots .ensures in compacted-as _ (λ j h. f .set j h) (c .before .before .keep-records .ensures)
+returns c =
+    let flagged : tie.After-flag-snapshots = search in
+    compacted-as _ (λ j h. flagged .flag-snapshots .ensures .set j h) (c .before .before .keep-records .ensures)
 
 pub expire-listed-spec : {M : Type 1} → statement M
 expire-listed-spec =

@@ -8,11 +8,12 @@ use Rattle.expiry.proofs.table.expire_named.Tie as tie
 
 returns : tie.Need-returns
 returns c =
-    let s = c .before .before .before .before .before .before .before in
-    let g = s .before .before .before .before .flag-live .ensures in
-    let a = s .before .before .before .before .before .before .before .before .before .before in
+    let places : tie.After-keep-places = search in
+    let flagged : tie.After-flag-live = search in
+    let start : tie.Start = search in
+    let g = flagged .flag-live .ensures in
     let w = compacted-as _ (λ j h. g .set j h) (c .before .before .keep-records .ensures) in
-    record { recordsLeft = w; namesLeft = compacted-beside _ nameSize _ _ _ _ (omega (arith, a .pre .versions .inside)) (omega arith) w (compacted-as _ (λ j h. g .set j h) (s .keep-places .ensures)) }
+    record { recordsLeft = w; namesLeft = compacted-beside _ nameSize _ _ _ _ (omega (arith, start .pre .versions .inside)) (omega arith) w (compacted-as _ (λ j h. g .set j h) (places .keep-places .ensures)) }
 
 pub expire-named-spec : {M : Type 1} → statement M
 expire-named-spec =

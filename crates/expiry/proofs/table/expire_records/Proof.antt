@@ -5,7 +5,9 @@ use Rattle.expiry.proofs.table.expire_records.Statement.{statement}
 use Rattle.expiry.proofs.table.expire_records.Tie as tie
 
 returns : tie.Need-returns
-returns c = let f = c .before .before .before .before .before .before .flag-live .ensures in compacted-as _ (λ j h. f .set j h) (c .before .before .keep-records .ensures)
+returns c =
+    let flagged : tie.After-flag-live = search in
+    compacted-as _ (λ j h. flagged .flag-live .ensures .set j h) (c .before .before .keep-records .ensures)
 
 pub expire-records-spec : {M : Type 1} → statement M
 expire-records-spec =
