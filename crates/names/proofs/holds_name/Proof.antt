@@ -25,7 +25,7 @@ loop-holds c = refl
 returns : tie.Need-returns Inv-loop μ-loop
 unfolding sameName
 returns c =
-    let s = c .before .before .before .before .before .before .before in
+    let s : tie.Start Inv-loop μ-loop = search in
     let l = c .before .before .before .before .loop in
     let t = c .before .before .before .loop-test .taken in
     let b = c .before .before .padded-byte .ensures in
@@ -33,7 +33,7 @@ returns c =
 
 loop-again : tie.Need-loop-again Inv-loop μ-loop
 loop-again c =
-    let s = c .before .before .before .before .before .before .before in
+    let s : tie.Start Inv-loop μ-loop = search in
     let l = c .before .before .before .before .loop in
     let t = c .before .before .before .loop-test .taken in
     let b = c .before .before .padded-byte .ensures in

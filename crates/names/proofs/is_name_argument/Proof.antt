@@ -31,14 +31,14 @@ loop-holds c = simp (le-leb _ _ (c .before .if1 .left), le-leb _ _ (c .if2 .left
 
 returns-3 : tie.Need-returns-3 Inv-loop μ-loop
 returns-3 c =
-    let s = c .before .before .before .before .before .before .before .before in
+    let s : tie.Start Inv-loop μ-loop = search in
     let l = c .before .before .before .before .loop in
     let t = c .before .is-name-byte in
     sym (l .inv ∙ all-first-fail isNameByte (rest-step 0 (s .args .name .now) (l .k) (c .before .before .before .loop-test .taken)) (sym (t .ensures) ∙ not-true (t .result) (c .if3 .taken)))
 
 loop-again : tie.Need-loop-again Inv-loop μ-loop
 loop-again c =
-    let s = c .before .before .before .before .before .before .before .before in
+    let s : tie.Start Inv-loop μ-loop = search in
     let l = c .before .before .before .before .loop in
     let t = c .before .is-name-byte in
     l .inv ∙ all-first-pass isNameByte (rest-step 0 (s .args .name .now) (l .k) (c .before .before .before .loop-test .taken)) (sym (t .ensures) ∙ not-false (t .result) (c .if3 .left))

@@ -8,11 +8,13 @@ use Rattle.paths.proofs.path.write_group.Tie as tie
 
 write-bytes-requires : tie.Need-write-bytes-requires
 write-bytes-requires c κs =
-    let s = c .before .before .before .before .before .before .before in
-    omega (arith, hex-length (s .args .n) (s .args .number))
+    let start : tie.Start = search in
+    omega (arith, hex-length (start .args .n) (start .args .number))
 
 returns : tie.Need-returns
-returns c = written-then (c .before .before .before .before .before .before .before .write-hex .ensures) (c .before .before .write-bytes .ensures) (omega arith)
+returns c =
+    let digits : tie.After-write-hex = search in
+    written-then (digits .write-hex .ensures) (c .before .before .write-bytes .ensures) (omega arith)
 
 pub write-group-spec : {M : Type 1} → statement M
 write-group-spec =

@@ -9,16 +9,16 @@ use Rattle.paths.proofs.path.write_path.Tie as tie
 
 write-bytes-requires-2 : tie.Need-write-bytes-requires-2
 write-bytes-requires-2 c κs =
-    let s = c .before .before .before .before .before .before .before .before .before .before .before .before in
-    omega (arith, uuid-length (s .args .uuid))
+    let start : tie.Start = search in
+    omega (arith, uuid-length (start .args .uuid))
 
 returns : tie.Need-returns
 unfolding path
 returns c =
-    let uuid = c .before .before .before .before .before .before .before in
-    let start = uuid .before .before .before .before in
-    let h = start .before .before .before .before .pre in
-    written-then (written-then (start .write-bytes .ensures) (uuid .write-uuid .ensures) (omega (arith, h))) (c .before .before .write-bytes2 .ensures) (omega (arith, h))
+    let uuid : tie.After-write-uuid = search in
+    let first : tie.After-write-bytes = search in
+    let start : tie.Start = search in
+    written-then (written-then (first .write-bytes .ensures) (uuid .write-uuid .ensures) (omega (arith, start .pre))) (c .before .before .write-bytes2 .ensures) (omega (arith, start .pre))
 
 pub write-path-spec : {M : Type 1} → statement M
 write-path-spec =

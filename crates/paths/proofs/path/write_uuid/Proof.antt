@@ -9,11 +9,12 @@ use Rattle.paths.proofs.path.write_uuid.Tie as tie
 returns : tie.Need-returns
 unfolding uuidText
 returns c =
-    let fourth = c .before .before .before .before .before .before in
-    let third = fourth .before .before .before .before .before in
-    let second = third .before .before .before .before in
-    let first = second .before .before .before .before .before in
-    let h = first .before .before .before .before .pre in
+    let fourth : tie.After-write-group4 = search in
+    let third : tie.After-write-group3 = search in
+    let second : tie.After-write-group2 = search in
+    let first : tie.After-write-group = search in
+    let start : tie.Start = search in
+    let h = start .pre in
     written-then (written-then (written-then (written-then (first .write-group .ensures) (second .write-group2 .ensures) (omega (arith, h)))
     (third .write-group3 .ensures) (omega (arith, h))) (fourth .write-group4 .ensures) (omega (arith, h))) (c .before .before .write-hex .ensures) (omega (arith, h))
 
