@@ -17,13 +17,15 @@ loop-holds c = let a = c .before .args in (omega arith, looking-start (a .w .now
 
 returns : tie.Need-returns Inv-loop μ-loop
 returns c =
-    let a = c .before .before .before .before .before .before .args in
+    let start : tie.Start Inv-loop μ-loop = search in
+    let a = start .args in
     let h = c .before .before .before .before .loop in
     looking-hit (a .w .now) (a .n) (h .i) (c .before .before .before .loop-test .taken) (c .before .is-call .ensures) (c .if1 .taken) (h .inv .1)
 
 loop-again : tie.Need-loop-again Inv-loop μ-loop
 loop-again c =
-    let a = c .before .before .before .before .before .before .args in
+    let start : tie.Start Inv-loop μ-loop = search in
+    let a = start .args in
     let h = c .before .before .before .before .loop in
     (omega arith, looking-next (a .w .now) (a .n) (h .i) (c .before .before .before .loop-test .taken) (c .before .is-call .ensures) (c .if1 .left) (h .inv .1))
 

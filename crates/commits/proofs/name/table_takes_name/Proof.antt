@@ -32,8 +32,8 @@ table-schema-requires c κs = let p = c .before .before .before .before .before 
 
 is-named-requires : tie.Need-is-named-requires
 is-named-requires c κs =
-    let p = c .before .before .before .before .before .before .pre in
-    record-fits nameSize (p .1) (p .0 .places)
+    let start : tie.Start = search in
+    record-fits nameSize (start .pre .1) (start .pre .0 .places)
 
 returns : tie.Need-returns
 returns c =
