@@ -1,8 +1,8 @@
 .PHONY: test edits run library fuzz bench costs check-times
 
-# Provers at a time, where none is asked for: twice as many as processors, since the crates of a level wait for its last, and at most one for each 4 GiB.
+# Provers at a time, where none is asked for: four times as many as processors, since the crates of a level and the edits of a batch wait for the last, and at most one for each 3 GiB.
 ifndef RT_JOBS
-export RT_JOBS := $(shell awk -v most=$$((2 * $$(nproc))) '/^MemTotal/ { n = int($$2 / 4194304); print n < 1 ? 1 : n < most ? n : most }' /proc/meminfo)
+export RT_JOBS := $(shell awk -v most=$$((4 * $$(nproc))) '/^MemTotal/ { n = int($$2 / 3145728); print n < 1 ? 1 : n < most ? n : most }' /proc/meminfo)
 endif
 
 # Proves every crate from nothing, tries the must-fail edits, runs the programs and the scripts of tests/.
@@ -13,11 +13,10 @@ test:
 edits:
 	@sh tests/edits
 
-# Proves the program `diary` and what it stands on, in the order of crates.txt, saying so on the way, and runs it: document 01's three lines. Minutes the first time, seconds
-# after that.
-below = awk -F: '{ name[NR] = $$1; deps[NR] = $$2 " " } END { all = " diary "; for (i = NR; i; i--) if (index(all, " " name[i] " ")) { all = all deps[i]; said = name[i] " " said } print said }'
+# Proves the program `diary` and what it stands on, each crate as soon as those that it depends on are proved, saying so on the way, and runs it: document 01's three lines.
+# Minutes the first time, seconds after that. The lines of crates.txt, with a prefix, are the rules.
 run:
-	@{ rt check $$($(below) crates.txt) 2>&1; echo "rt: ended with $$?"; } | sed -n -u '/^rt: /p' | tee /dev/stderr | grep -q -x 'rt: ended with 0' && target/bin/diary
+	@{ sed -E 's/[a-z_]+/crate.&/g' crates.txt; printf 'crate.%%:\n\t@sh tests/prove $$*\n'; } | $(MAKE) -s -j $(RT_JOBS) -f - crate.diary && target/bin/diary
 
 # The public calls as one archive, for include/gukoremo.h and host/gukoremo.
 library:

@@ -29,7 +29,7 @@ use Rattle.ducklake.specs.Liveness.{live, latestOf, deleteFilesAt}
 use Rattle.ducklake.specs.Soundness.{inLimit, isRecordCount, snapshotInRange, schemaInRange, tableInRange, columnInRange, dataFileInRange, deleteFileInRange, statisticsInRange, scheduledInRange, fieldsInRange, follows, snapshotsRise, byId, byTableAndId, byFileAndColumn, idsAscend, deleteFilesApart, positionsSound, deletesSound, soundLines, positionsAddUp, sound}
 use Rattle.call_laws.specs.Latest.{HasLatest}
 use Rattle.ducklake.proofs.facts.Facts.{Sound, sound-lines, reflects-sound, DeleteFilesApart}
-use Rattle.ducklake.proofs.facts.Needs.{AllPassed}
+use Rattle.ducklake.proofs.facts.FirstRefusals.{AllPassed}
 use Rattle.ducklake.proofs.commits.Moves.{SmallSnapshot, reflects-small, latest-small}
 use Rattle.call_laws.proofs.Ids.{schema-ids, table-ids, data-file-ids, delete-file-ids, column-order, statistics-order, snapshot-ids, snapshot-times}
 

@@ -2,6 +2,6 @@ pub mod Effects
 pub mod Found
 pub mod Judged
 pub mod Lives
-pub mod Relied
+pub mod LentRecords
 pub mod Room
 pub mod Uuids

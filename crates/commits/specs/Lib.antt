@@ -1,2 +1,2 @@
-pub mod Relied
+pub mod LentRecords
 pub mod Written

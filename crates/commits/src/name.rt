@@ -8,7 +8,7 @@ ghost use Rattle.layout.specs.Names.{padded};
 ghost use Rattle.layout.specs.Words.{schemaAt, schemasIn, tableAt, tablesIn};
 ghost use Rattle.ducklake.specs.Arguments.{clashes};
 ghost use Rattle.ducklake.specs.Liveness.{live, schemasAt, tablesAt};
-ghost use Rattle.commits.specs.Relied.{WithNames};
+ghost use Rattle.commits.specs.LentRecords.{WithNames};
 use layout::number::CatalogId;
 use layout::number::SnapshotId;
 use layout::record::SchemaRecord;

@@ -5,7 +5,7 @@ ghost use Rattle.layout.specs.Catalog.{numberLimit, snapshotOf};
 ghost use Rattle.ducklake.specs.Commits.{following};
 ghost use Rattle.ducklake.specs.Kinds.{raisesSchemaVersion};
 ghost use Rattle.ducklake.specs.Soundness.{snapshotInRange};
-ghost use Rattle.commits.specs.Relied.{CanFollow};
+ghost use Rattle.commits.specs.LentRecords.{CanFollow};
 use layout::number::CatalogId;
 use layout::number::FileId;
 use layout::number::NUMBER_LIMIT;

@@ -7,7 +7,7 @@ ghost use Rattle.lists.specs.Lists.{all};
 ghost use Rattle.lists.specs.Runs.{pairs};
 ghost use Rattle.layout.specs.Words.{Words, load};
 ghost use Rattle.ducklake.specs.Calls.{uuidFree};
-ghost use Rattle.commits.specs.Relied.{FilesLent};
+ghost use Rattle.commits.specs.LentRecords.{FilesLent};
 use layout::outcome::Counts;
 use layout::record::DataFileRecord;
 use layout::record::DeleteFileRecord;

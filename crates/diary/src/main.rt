@@ -1,12 +1,10 @@
 // Plays the diary session of document 01 and prints its files.
-mod session;
-
 ghost use Rattle.paths.specs.Text.{Written};
 ghost use Rattle.diary_session.specs.Room.{Room};
 ghost use Rattle.diary_session.specs.Program.{diaryText};
-use crate::session::begin_session;
-use crate::session::end_session;
+use diary_changes::end_session;
 use diary_listing::write_listing;
+use diary_start::begin_session;
 use layout::number::NAME_SIZE;
 use layout::outcome::Counts;
 use layout::record::ColumnRecord;

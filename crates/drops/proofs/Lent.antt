@@ -18,7 +18,7 @@ use Rattle.refusals.specs.Checked.{checkedOf}
 use Rattle.refusals.proofs.Laws.{checked-ready}
 use Rattle.commits.proofs.Room.{snapshot-room}
 use Rattle.drops.specs.Lent.{DropSchemaLent, dropSchemaLeaves, DropTableLent, dropTableLeaves}
-use Rattle.drops.specs.Relied.{DropSchemaChecked, DropTableChecked, DropSchemaRoom, DropTableRoom}
+use Rattle.drops.specs.DropRoom.{DropSchemaChecked, DropTableChecked, DropSchemaRoom, DropTableRoom}
 
 -- 'Drop schema'
 

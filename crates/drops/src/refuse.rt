@@ -5,7 +5,7 @@ ghost use Rattle.layout.specs.Words.{Words};
 ghost use Rattle.ducklake.specs.Commits.{dropTable, dropSchema};
 ghost use Rattle.ducklake.specs.Calls.{commitAt, refusal};
 ghost use Rattle.refusals.specs.Checked.{checkedOf};
-ghost use Rattle.drops.specs.Relied.{DropSchemaChecked, DropTableChecked};
+ghost use Rattle.drops.specs.DropRoom.{DropSchemaChecked, DropTableChecked};
 use commits::number::next_snapshot;
 use commits::number::snapshot_fits;
 use commits::schema::schema_is_empty;

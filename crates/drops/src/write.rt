@@ -4,7 +4,7 @@ ghost use Rattle.layout.specs.Words.{Words, load, store, fits};
 ghost use Rattle.ducklake.specs.Commits.{dropTable, dropSchema};
 ghost use Rattle.ducklake.specs.Calls.{commitAt, effect};
 ghost use Rattle.drops.specs.Lent.{dropSchemaLeaves, dropTableLeaves};
-ghost use Rattle.drops.specs.Relied.{DropSchemaRoom, DropTableRoom};
+ghost use Rattle.drops.specs.DropRoom.{DropSchemaRoom, DropTableRoom};
 use commits::append::append_snapshot;
 use commits::end::end_columns;
 use commits::end::end_data_files;

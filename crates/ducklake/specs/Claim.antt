@@ -10,7 +10,7 @@ use Rattle.layout.specs.declared.outcome.Counts.{Counts}
 use Rattle.layout.specs.Catalog.{absent}
 use Rattle.layout.specs.Words.{Words, load}
 use Rattle.ducklake.specs.Liveness.{retained}
-use Rattle.ducklake.specs.Refusals.{accepted, shortAnswerArea, idOfTable, noSuchId, need}
+use Rattle.ducklake.specs.Refusals.{accepted, shortAnswerArea, idOfTable, noSuchId, refuseUnless}
 use Rattle.ducklake.specs.Readings.{Query, files, rows, queryAnswer}
 use Rattle.ducklake.specs.Calls.{Call, commitAt, expireSnapshots, cleanUp, Result, perform, performFresh, queryAt, performReading}
 use Rattle.ducklake.specs.Journal.{TableRows, Journal, emptyJournal, journaled}
@@ -170,11 +170,11 @@ pub record Holds (S S′ : State) : Type 0 where
   pub rowsAsJournaled : (s table : ℕ) → isRetained S′ s ≡ true
       → readingOf (S′ .words) (S′ .counts) s (rows table)
       ≡ (let t : TableRows = S′ .journal .page s table in
-      record { number = need (noSuchId (load (S′ .words) (S′ .counts)) idOfTable table) (t .present) accepted; words = cond (t .present) (t .rows) [] })
+      record { number = refuseUnless (noSuchId (load (S′ .words) (S′ .counts)) idOfTable table) (t .present) accepted; words = cond (t .present) (t .rows) [] })
   -- the file list of a table on the page is accepted, and that of any other, of whatever id, is refused with 6
   pub fileListsAsJournaled : (s table : ℕ) → isRetained S′ s ≡ true
       → readingOf (S′ .words) (S′ .counts) s (files table) .number
-      ≡ need (noSuchId (load (S′ .words) (S′ .counts)) idOfTable table) (S′ .journal .page s table .present) accepted
+      ≡ refuseUnless (noSuchId (load (S′ .words) (S′ .counts)) idOfTable table) (S′ .journal .page s table .present) accepted
   -- so "the file list of some table" is that of a table that the journal knows
   pub listedAnywhere : (s table k : ℕ) → isRetained S′ s ≡ true → readingOf (S′ .words) (S′ .counts) s (files table) .number ≡ accepted
       → has k (readingOf (S′ .words) (S′ .counts) s (files table) .words) ≡ true → isListed S′ k ≡ true

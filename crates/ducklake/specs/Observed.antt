@@ -9,7 +9,7 @@ use Rattle.lists.specs.Lists.{has}
 use Rattle.layout.specs.declared.outcome.Counts.{Counts}
 use Rattle.layout.specs.declared.outcome.Outcome.{Outcome}
 use Rattle.layout.specs.Words.{Words, load}
-use Rattle.ducklake.specs.Refusals.{accepted, shortAnswerArea, idOfTable, noSuchId, need}
+use Rattle.ducklake.specs.Refusals.{accepted, shortAnswerArea, idOfTable, noSuchId, refuseUnless}
 use Rattle.ducklake.specs.Readings.{Query, files, rows}
 use Rattle.ducklake.specs.Calls.{Call, Result, placeZero, perform, performFresh, Reading, queryAt, performReading, Promise}
 use Rattle.ducklake.specs.Lookup.{performLookup}
@@ -88,7 +88,7 @@ pub record Seen (S S′ : State) : Type 0 where
   pub rowsAsJournaled : (s table : ℕ) → isRetained S′ s ≡ true → (x : Reads S′ s (rows table))
       → given x
       ≡ (let t : TableRows = S′ .journal .page s table in
-      record { number = need (noSuchId (load (S′ .words) (S′ .counts)) idOfTable table) (t .present) accepted; words = cond (t .present) (t .rows) [] })
+      record { number = refuseUnless (noSuchId (load (S′ .words) (S′ .counts)) idOfTable table) (t .present) accepted; words = cond (t .present) (t .rows) [] })
   -- "in the file list of some table at a retained snapshot": a file list that is seen to hold a file, and one that will be seen to
   pub seenListed : (s table k : ℕ) → isRetained S′ s ≡ true → (x : Reads S′ s (files table)) → given x .number ≡ accepted → has k (given x .words) ≡ true
       → isListed S′ k ≡ true

@@ -1,5 +1,5 @@
 pub mod Ids
 pub mod Merged
 pub mod Refused
-pub mod Relied
+pub mod Expirable
 pub mod Retained

@@ -16,10 +16,10 @@ use Rattle.layout.specs.declared.outcome.Counts.{Counts}
 use Rattle.layout.specs.Fields.{dataFileSize, dataFileIdWord, deleteFileSize, deleteFileIdWord}
 use Rattle.layout.specs.Words.{Words, load, dataFileAt, dataFilesIn, deleteFileAt, deleteFilesIn}
 use Rattle.ducklake.specs.Soundness.{sound}
-use Rattle.ducklake.specs.Refusals.{accepted, notSound, notLive, need}
+use Rattle.ducklake.specs.Refusals.{accepted, notSound, notLive, refuseUnless}
 use Rattle.ducklake.specs.Calls.{Promise}
 use Rattle.ducklake.specs.Lookup.{FilePlace, inDataFiles, inDeleteFiles, nowhere, foundOr, placeOfFile, isSomewhere, lookupRefusals, LiesAt, wordsAt, lookup, LookupPromise, lookupAnswer, lookupRefusal, performLookup}
-use Rattle.ducklake.proofs.facts.Needs.{need-passed}
+use Rattle.ducklake.proofs.facts.FirstRefusals.{unless-passed}
 use Rattle.call_laws.proofs.Promises.{outcome}
 use Rattle.lookup.specs.Order.{placeOf}
 use Rattle.refusals.specs.declared.checked.Checked.{Checked}
@@ -69,7 +69,7 @@ module _ (w : Words) (c : Counts) (k : ℕ) (a b part : RefT (List ℕ)) where
 
   module _ (e : w .dataFiles ≡ a .now) (f : w .deleteFiles ≡ b .now) where
     pub part-found : {n : ℕ} → sound w c ≡ true → LiesAt a b part (placeIn (a .now) (c .«data_files») (b .now) (c .«delete_files») k)
-        → n ≡ need notLive (isSomewhere (placeIn (a .now) (c .«data_files») (b .now) (c .«delete_files») k)) accepted → LookupPromise (lookup w c k) a b part n
+        → n ≡ refuseUnless notLive (isSomewhere (placeIn (a .now) (c .«data_files») (b .now) (c .«delete_files») k)) accepted → LookupPromise (lookup w c k) a b part n
     unfolding lookup
     part-found h l q = rw (h, place-in w c k, e, f) (record { number = q; part = l })
 
@@ -86,5 +86,5 @@ module _ (w : Words) (c : Counts) (k : ℕ) (a b part : RefT (List ℕ)) where
       pub copy-answered : {area′ : List ℕ} {r : Answer} → n ≡ 0 → Answered (part .now) area r area′ → Promise (performLookup k w c area) (outcome (r .number) 0 (r .length) c) w area′
       unfolding lookup performLookup lookupRefusal lookupAnswer
       copy-answered z q =
-          let h = need-passed notSound (sound w c) _ (omega arith) (sym (l .number) ∙ z) .0 in
+          let h = unless-passed notSound (sound w c) _ (omega arith) (sym (l .number) ∙ z) .0 in
           tests-pass tests (omega arith) (lookupAnswer w c k) w c area (l .number) z (lies-words w a b part (placeOfFile (load w c) k) e f (rw h at (l .part))) q

@@ -2,7 +2,7 @@ ghost use mathlib.Core.Path.{_≡_};
 ghost use Prim.Native.Nat.{_+_, _≤_};
 ghost use lib.ListN.{length};
 ghost use Rattle.lists.specs.Runs.{PartOf};
-ghost use Rattle.ducklake.specs.Refusals.{need, notLive, accepted};
+ghost use Rattle.ducklake.specs.Refusals.{refuseUnless, notLive, accepted};
 ghost use Rattle.ducklake.specs.Lookup.{isSomewhere, LiesAt, lookup, LookupPromise};
 ghost use Rattle.file_lookup.specs.Runs.{placeIn, FilesById, FilesLent};
 use layout::number::FileId;
@@ -38,7 +38,7 @@ fn find_record<'a>(
     requires { ⌜ FilesById (now «data_files») n (now «delete_files») m ⌝ }
     ensures { λ r. ⌜ LiesAt («data_files» .entry) («delete_files» .entry) r (placeIn (now («data_files» .entry)) n (now («delete_files» .entry)) m (id .0)) ⌝ }
     ensures { λ _. ⌜ now (number .exit)
-        ≡ need notLive (isSomewhere (placeIn (now («data_files» .entry)) n (now («delete_files» .entry)) m (id .0))) accepted ⌝ }
+        ≡ refuseUnless notLive (isSomewhere (placeIn (now («data_files» .entry)) n (now («delete_files» .entry)) m (id .0))) accepted ⌝ }
 {
     let found = find_data_file(data_files, n, id);
     if let Found::At(i) = found {

@@ -14,7 +14,7 @@ use Rattle.ducklake.specs.Liveness.{retained, isLive, schemasAt, tablesAt, colu
 use Rattle.ducklake.specs.Refusals.{notRetained, notLive, noSnapshotByThen}
 use Rattle.ducklake.specs.Readings.{schemas, tables, columns, tableNamed, tablesNamed, queryAnswer, snapshotsByTime}
 use Rattle.ducklake.specs.Calls.{queryAt, byTime, readingAnswer}
-use Rattle.ducklake.proofs.facts.Needs.{need-passed}
+use Rattle.ducklake.proofs.facts.FirstRefusals.{unless-passed}
 use Rattle.refusals.specs.Checked.{unanswered}
 use Rattle.readings.proofs.Promises.{reading-passed}
 
@@ -48,9 +48,9 @@ module _ (w : Words) (c : Counts) (s schema : ℕ) (name : List ℕ) {run names 
   pub named-some : {n : ℕ} → n ≡ unanswered w c (queryAt s (tableNamed schema name)) → n ≡ 0 → nonEmpty (tablesNamed (tablesIn run names (c .tables)) s schema name) ≡ true
   unfolding load
   named-some g z =
-      let a = need-passed notRetained (retained (load w c .snapshots) s) _ (omega arith) (reading-passed w c (queryAt s (tableNamed schema name)) g z) in
-      let b = need-passed notLive (isLive (load w c .schemas) s schema) _ (omega arith) (a .1) in
-      let d = need-passed notLive (isNameArgument name && nonEmpty (tablesNamed (tablesIn (w .tables) (w .tableNames) (c .tables)) s schema name)) 0 (omega arith) (b .1) .0 in
+      let a = unless-passed notRetained (retained (load w c .snapshots) s) _ (omega arith) (reading-passed w c (queryAt s (tableNamed schema name)) g z) in
+      let b = unless-passed notLive (isLive (load w c .schemas) s schema) _ (omega arith) (a .1) in
+      let d = unless-passed notLive (isNameArgument name && nonEmpty (tablesNamed (tablesIn (w .tables) (w .tableNames) (c .tables)) s schema name)) 0 (omega arith) (b .1) .0 in
       rw (e, f) at (both (isNameArgument name) (nonEmpty (tablesNamed (tablesIn (w .tables) (w .tableNames) (c .tables)) s schema name)) d .1)
 
 module _ (w : Words) (c : Counts) (t : ℕ) {run : List ℕ} (e : w .snapshots ≡ run) where
@@ -64,4 +64,4 @@ module _ (w : Words) (c : Counts) (t : ℕ) {run : List ℕ} (e : w .snapshots �
 
   pub by-time-some : {n : ℕ} → n ≡ unanswered w c (byTime t) → n ≡ 0 → nonEmpty (snapshotsByTime (snapshotsIn run (c .snapshots)) t) ≡ true
   unfolding load
-  by-time-some g z = rw e at (need-passed noSnapshotByThen (nonEmpty (snapshotsByTime (snapshotsIn (w .snapshots) (c .snapshots)) t)) _ (omega arith) (reading-passed w c (byTime t) g z) .0)
+  by-time-some g z = rw e at (unless-passed noSnapshotByThen (nonEmpty (snapshotsByTime (snapshotsIn (w .snapshots) (c .snapshots)) t)) _ (omega arith) (reading-passed w c (byTime t) g z) .0)

@@ -11,9 +11,9 @@ use Rattle.lists.proofs.Tests.{if}
 use Rattle.layout.specs.declared.outcome.Counts.{Counts}
 use Rattle.layout.specs.Words.{Words, load}
 use Rattle.ducklake.specs.Soundness.{sound}
-use Rattle.ducklake.specs.Refusals.{accepted, notSound, shortAnswerArea, need, first}
+use Rattle.ducklake.specs.Refusals.{accepted, notSound, shortAnswerArea, refuseUnless, first}
 use Rattle.ducklake.specs.Calls.{Result, placeZero, refused, answered, Reading, readingRefusals, readingAnswer, readingRefusal, performReading, Promise}
-use Rattle.ducklake.proofs.facts.Needs.{NumberedFrom, first-append, need-passed}
+use Rattle.ducklake.proofs.facts.FirstRefusals.{NumberedFrom, first-append, unless-passed}
 use Rattle.ducklake.proofs.readings.Answers.{numbered-reading}
 use Rattle.call_laws.proofs.Promises.{outcome}
 use Rattle.call_laws.proofs.Refusals.{first-orElse, orElse-zero, orElse-some}
@@ -29,7 +29,7 @@ answering ts words w c area =
 
 module _ (ts : List (ℕ × Bool)) (t : NumberedFrom 1 ts) (words : List ℕ) (w : Words) (c : Counts) (area : List ℕ) {n : ℕ} (e : n ≡ first ts accepted) where
   abbrev short : ℕ
-  short = need shortAnswerArea (leb (length words) (length area)) accepted
+  short = refuseUnless shortAnswerArea (leb (length words) (length area)) accepted
 
   number-is : first (ts ++ ((shortAnswerArea, leb (length words) (length area)) ∷ [])) accepted ≡ first ts short
   number-is = first-append ts ((shortAnswerArea, leb (length words) (length area)) ∷ []) accepted
@@ -72,8 +72,8 @@ module _ (w : Words) (c : Counts) (r : Reading) {n : ℕ} (e : n ≡ unanswered 
   -- what is not refused is read in sound tables, and has passed its own tests
   pub reading-sound : n ≡ 0 → sound w c ≡ true
   unfolding unanswered
-  reading-sound z = need-passed notSound (sound w c) _ (omega arith) (sym e ∙ z) .0
+  reading-sound z = unless-passed notSound (sound w c) _ (omega arith) (sym e ∙ z) .0
 
   pub reading-passed : n ≡ 0 → first (readingRefusals (load w c) r) accepted ≡ 0
   unfolding unanswered
-  reading-passed z = need-passed notSound (sound w c) _ (omega arith) (sym e ∙ z) .1
+  reading-passed z = unless-passed notSound (sound w c) _ (omega arith) (sym e ∙ z) .1

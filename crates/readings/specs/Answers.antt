@@ -7,10 +7,10 @@ use mathlib.Core.List.{List}
 use lib.Dec.{leb}
 use lib.ListN.{length}
 use Rattle.lists.specs.Runs.{overwrite}
-use Rattle.ducklake.specs.Refusals.{accepted, shortAnswerArea, need}
+use Rattle.ducklake.specs.Refusals.{accepted, shortAnswerArea, refuseUnless}
 use Rattle.readings.specs.declared.answer.Answer.{Answer}
 
 pub record Answered (answer area : List ℕ) (r : Answer) (area′ : List ℕ) : Type 0 where
-  pub number : r .number ≡ need shortAnswerArea (leb (length answer) (length area)) accepted
+  pub number : r .number ≡ refuseUnless shortAnswerArea (leb (length answer) (length area)) accepted
   pub count : r .length ≡ cond (leb (length answer) (length area)) (length answer) 0
   pub left : area′ ≡ cond (leb (length answer) (length area)) (overwrite area 0 answer) area

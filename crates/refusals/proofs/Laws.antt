@@ -13,15 +13,15 @@ use Rattle.layout.specs.declared.outcome.Terms.{Terms}
 use Rattle.layout.specs.Words.{Words, load, countsOf, capacity, within, fits}
 use Rattle.layout.proofs.Room.{reflects-within}
 use Rattle.ducklake.specs.Soundness.{sound}
-use Rattle.ducklake.specs.Refusals.{accepted, notSound, noRoom, shortAnswerArea, need, first}
+use Rattle.ducklake.specs.Refusals.{accepted, notSound, noRoom, shortAnswerArea, refuseUnless, first}
 use Rattle.ducklake.specs.Commits.{Commit, changeOf, additions}
 use Rattle.ducklake.specs.Calls.{Call, commitAt, callRefusals, effect, answer, hasRoom, refusal, Reading}
 use Rattle.ducklake.proofs.claim.Accepted.{refusal-parts}
 use Rattle.call_laws.specs.Writes.{addCounts}
 use Rattle.call_laws.proofs.Commits.{counts-after}
 use Rattle.call_laws.proofs.Ready.{Ready, ready}
-use Rattle.call_laws.proofs.Refusals.{AcceptedCall, refusal-unsound, need-pass, fail}
-use Rattle.refusals.specs.Relied.{Few}
+use Rattle.call_laws.proofs.Refusals.{AcceptedCall, refusal-unsound, unless-pass, fail}
+use Rattle.refusals.specs.Few.{Few}
 use Rattle.refusals.specs.declared.checked.Checked.{Checked}
 use Rattle.refusals.specs.Checked.{checkedOf, unanswered}
 
@@ -37,16 +37,16 @@ pub room-as : (c r : Counts) {a added : Counts} {b : Bool} → b ≡ within (add
 room-as c r p q = rw q at p
 
 -- what comes after a test matters only where the test is passed
-pub need-same : (number : ℕ) (b : Bool) {x y : ℕ} → (b ≡ true → x ≡ y) → need number b x ≡ need number b y
+pub need-same : (number : ℕ) (b : Bool) {x y : ℕ} → (b ≡ true → x ≡ y) → refuseUnless number b x ≡ refuseUnless number b y
 need-same number true e = e refl
 need-same number false e = refl
 
 -- the number of a call without an answer on sound tables: its own tests, and room for its effect
 pub call-refusal : (w : Words) (c : Counts) (m : ℕ) (k : Call) {room : Bool} {n : ℕ} → sound w c ≡ true → answer (load w c) k ≡ [] → room ≡ hasRoom w (effect (load w c) k)
-    → n ≡ first (callRefusals (load w c) k) (need noRoom room accepted) → n ≡ refusal w c m k
+    → n ≡ first (callRefusals (load w c) k) (refuseUnless noRoom room accepted) → n ≡ refusal w c m k
 call-refusal w c m k h a r j =
-    j ∙ (ap₂ (λ b x. first (callRefusals (load w c) k) (need noRoom b x)) r (sym (need-pass {b = leb (length (answer (load w c) k)) m} shortAnswerArea accepted (rw a (le-leb 0 m (omega arith)))))
-    ∙ (sym (need-pass notSound _ h) ∙ sym (refusal-parts w c m k)))
+    j ∙ (ap₂ (λ b x. first (callRefusals (load w c) k) (refuseUnless noRoom b x)) r (sym (unless-pass {b = leb (length (answer (load w c) k)) m} shortAnswerArea accepted (rw a (le-leb 0 m (omega arith)))))
+    ∙ (sym (unless-pass notSound _ h) ∙ sym (refusal-parts w c m k)))
 
 module _ (w : Words) (c : Counts) {checked : Checked} (e : checked ≡ checkedOf w c) where
   pub is-sound : not (checked .sound) ≡ false → sound w c ≡ true

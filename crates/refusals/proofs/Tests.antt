@@ -13,9 +13,9 @@ use Rattle.layout.specs.declared.outcome.Terms.{Terms}
 use Rattle.layout.specs.Catalog.{Catalog}
 use Rattle.layout.specs.Words.{Words, load, countsOf, within}
 use Rattle.ducklake.specs.Soundness.{sound}
-use Rattle.ducklake.specs.Refusals.{accepted, notSound, noRoom, need, first}
+use Rattle.ducklake.specs.Refusals.{accepted, notSound, noRoom, refuseUnless, first}
 use Rattle.ducklake.specs.Commits.{Commit, changeOf, additions}
-use Rattle.ducklake.proofs.facts.Needs.{first-append}
+use Rattle.ducklake.proofs.facts.FirstRefusals.{first-append}
 use Rattle.ducklake.specs.Calls.{Call, commitAt, callRefusals, effect, answer, hasRoom, refusal, Reading, readingRefusals}
 use Rattle.call_laws.specs.Writes.{addCounts}
 use Rattle.call_laws.proofs.Refusals.{sound-fits, pass}
@@ -60,7 +60,7 @@ numbers ts = map (λ t. t .0) ts
 
 agree-first : {bs : List Bool} {ts : List (ℕ × Bool)} → Agree bs ts → first (paired (numbers ts) bs) accepted ≡ first ts accepted
 agree-first done = refl
-agree-first (_then_ {a} {b} {bs} {number} {ts} e f) = ap (λ c. need number c (first (paired (numbers ts) bs) accepted)) e ∙ need-same number b (λ h. agree-first (f h))
+agree-first (_then_ {a} {b} {bs} {number} {ts} e f) = ap (λ c. refuseUnless number c (first (paired (numbers ts) bs) accepted)) e ∙ need-same number b (λ h. agree-first (f h))
 
 -- the refusals of a call behind 1: 5 to 19, then 4, and 2 by a test of room
 abbrev pub roomRefusals : Catalog → Call → Bool → List (ℕ × Bool)

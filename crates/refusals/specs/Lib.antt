@@ -1,3 +1,3 @@
 pub mod Checked
 pub mod Paired
-pub mod Relied
+pub mod Few

@@ -5,7 +5,7 @@ ghost use Rattle.layout.specs.Lent.{atEntry};
 ghost use Rattle.layout.specs.Names.{nameSize};
 ghost use Rattle.layout.specs.Words.{tableLimit, capacity, within};
 ghost use Rattle.call_laws.specs.Writes.{addCounts};
-ghost use Rattle.refusals.specs.Relied.{Few};
+ghost use Rattle.refusals.specs.Few.{Few};
 use layout::number::NAME_SIZE;
 use layout::number::POSITION_LIMIT;
 use layout::number::TABLE_LIMIT;

@@ -26,7 +26,7 @@ use Rattle.commits.specs.Written.{SnapshotAppended}
 use Rattle.commits.proofs.Effects.{latestIn}
 use Rattle.row_deletion.specs.Deleted.{DeletesKnown, DeletedPart, deletedIn}
 use Rattle.row_deletion.specs.Lent.{deleteLeaves}
-use Rattle.row_deletion.specs.Relied.{Mergeable, DeleteRoom}
+use Rattle.row_deletion.specs.DeleteRoom.{Mergeable, DeleteRoom}
 use Rattle.row_deletion.proofs.Parts.{part-count}
 
 -- the old positions, so many from a on, and the new ones have room behind those in use, and ascend

@@ -25,7 +25,7 @@ use Rattle.ducklake.specs.Refusals.{notSound, noRoom, shortAnswerArea, badPosit
 use Rattle.ducklake.specs.Arguments.{positionsFit}
 use Rattle.ducklake.specs.Commits.{delete, changeOf, numbersFit, following}
 use Rattle.ducklake.specs.Calls.{commitAt, offends, placeOf, callRefusals, effect, answer, hasRoom, refusal}
-use Rattle.ducklake.proofs.facts.Needs.{AllPassed, testOf}
+use Rattle.ducklake.proofs.facts.FirstRefusals.{AllPassed, testOf}
 use Rattle.commits.proofs.Judged.{numbers-as}
 use Rattle.row_deletion.specs.Deleted.{placeOrZero, refusedPlace}
 use Rattle.row_deletion.specs.Lent.{deleteAdds}

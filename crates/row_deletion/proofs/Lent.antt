@@ -16,9 +16,9 @@ use Rattle.refusals.specs.declared.checked.Checked.{Checked}
 use Rattle.refusals.specs.Checked.{checkedOf}
 use Rattle.refusals.proofs.Laws.{checked-ready}
 use Rattle.row_deletion.specs.Lent.{DeleteLent, deleteLeaves}
-use Rattle.row_deletion.specs.Relied.{DeleteChecked, OffenceSought, DeleteRoom}
+use Rattle.row_deletion.specs.DeleteRoom.{DeleteChecked, OffenceSought, DeleteRoom}
 use Rattle.row_deletion.proofs.Judges.{Offence}
-use Rattle.row_deletion.proofs.Relied.{delete-checked, offence-sought, delete-relies}
+use Rattle.row_deletion.proofs.DeleteRoom.{delete-checked, offence-sought, delete-relies}
 
 abbrev pub delete-lent : (w : Words) (c : Counts) {checked : Checked} → checked ≡ checkedOf w c
     → DeleteLent checked (w .snapshots) (w .dataFiles) (w .deleteFiles) (w .positions) (w .scheduled) c

@@ -6,4 +6,4 @@ pub mod Lent
 pub mod Merging
 pub mod Offending
 pub mod Parts
-pub mod Relied
+pub mod DeleteRoom

@@ -1,3 +1,3 @@
 pub mod Deleted
 pub mod Lent
-pub mod Relied
+pub mod DeleteRoom

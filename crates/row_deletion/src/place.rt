@@ -1,7 +1,7 @@
 ghost use mathlib.Core.Path.{_≡_};
 ghost use Rattle.ducklake.specs.Refusals.{alreadyDeleted};
 ghost use Rattle.row_deletion.specs.Deleted.{deletedIn, refusedPlace};
-ghost use Rattle.row_deletion.specs.Relied.{OffenceSought};
+ghost use Rattle.row_deletion.specs.DeleteRoom.{OffenceSought};
 use crate::deleted::positions_deleted;
 use crate::positions::first_deleted;
 use layout::number::FileId;

@@ -7,7 +7,7 @@ ghost use Rattle.ducklake.specs.Commits.{delete};
 ghost use Rattle.ducklake.specs.Calls.{commitAt, effect};
 ghost use Rattle.row_deletion.specs.Deleted.{deletedIn};
 ghost use Rattle.row_deletion.specs.Lent.{deleteLeaves};
-ghost use Rattle.row_deletion.specs.Relied.{DeleteRoom};
+ghost use Rattle.row_deletion.specs.DeleteRoom.{DeleteRoom};
 use crate::append::append_delete_file;
 use crate::deleted::deleted_part;
 use crate::file::data_file_of_id;

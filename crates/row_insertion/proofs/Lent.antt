@@ -15,7 +15,7 @@ use Rattle.refusals.specs.Checked.{checkedOf}
 use Rattle.refusals.proofs.Laws.{checked-ready}
 use Rattle.row_insertion.specs.Lent.{InsertLent, insertLeaves}
 use Rattle.row_insertion.specs.Written.{InsertChecked, InsertRoom}
-use Rattle.row_insertion.proofs.Relied.{insert-checked, insert-relies}
+use Rattle.row_insertion.proofs.InsertRoom.{insert-checked, insert-relies}
 
 abbrev pub insert-lent : (w : Words) (c : Counts) {checked : Checked} → checked ≡ checkedOf w c
     → InsertLent checked (w .snapshots) (w .tables) (w .columns) (w .dataFiles) (w .deleteFiles) (w .statistics) (w .scheduled) c

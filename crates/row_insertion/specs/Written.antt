@@ -16,7 +16,7 @@ use Rattle.ducklake.specs.Soundness.{snapshotInRange}
 use Rattle.call_laws.specs.Latest.{HasLatest}
 use Rattle.call_laws.specs.Writes.{growRecords}
 use Rattle.lookup.specs.Order.{TablesById, ColumnsByTable}
-use Rattle.commits.specs.Relied.{FilesLent}
+use Rattle.commits.specs.LentRecords.{FilesLent}
 use Rattle.commits.specs.Written.{SnapshotRoom}
 
 -- what an insert looks at

@@ -12,7 +12,7 @@ use Rattle.layout.specs.Words.{Words, load}
 use Rattle.ducklake.specs.Refusals.{badName}
 use Rattle.ducklake.specs.Commits.{createSchema}
 use Rattle.ducklake.specs.Calls.{Call, commitAt, callRefusals, refusal}
-use Rattle.ducklake.proofs.facts.Needs.{first-passed}
+use Rattle.ducklake.proofs.facts.FirstRefusals.{first-passed}
 use Rattle.ducklake.proofs.claim.Accepted.{numbered-call}
 use Rattle.call_laws.specs.Latest.{HasLatest}
 use Rattle.call_laws.specs.Writes.{addCounts}
@@ -23,10 +23,10 @@ use Rattle.call_laws.proofs.Refusals.{AcceptedCall}
 use Rattle.refusals.specs.declared.checked.Checked.{Checked}
 use Rattle.refusals.specs.Checked.{checkedOf}
 use Rattle.refusals.proofs.Laws.{checked-ready}
-use Rattle.commits.specs.Relied.{WithNames}
+use Rattle.commits.specs.LentRecords.{WithNames}
 use Rattle.commits.specs.Written.{SnapshotRoom, NamedRoom}
 use Rattle.commits.proofs.Judged.{name-short}
-use Rattle.commits.proofs.Relied.{schemas-named}
+use Rattle.commits.proofs.LentRecords.{schemas-named}
 use Rattle.commits.proofs.Room.{snapshot-room}
 use Rattle.schema_creation.specs.Lent.{CreateSchemaLent, createSchemaLeaves}
 

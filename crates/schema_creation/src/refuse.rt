@@ -7,7 +7,7 @@ ghost use Rattle.ducklake.specs.Commits.{createSchema};
 ghost use Rattle.ducklake.specs.Calls.{commitAt, refusal};
 ghost use Rattle.call_laws.specs.Latest.{HasLatest};
 ghost use Rattle.refusals.specs.Checked.{checkedOf};
-ghost use Rattle.commits.specs.Relied.{WithNames};
+ghost use Rattle.commits.specs.LentRecords.{WithNames};
 use commits::name::schema_name_is_free;
 use commits::number::next_snapshot;
 use commits::number::snapshot_fits;

@@ -13,14 +13,14 @@ use Rattle.layout.specs.Catalog.{scheduledRecord}
 use Rattle.layout.specs.Words.{Words, lent, load, capacity}
 use Rattle.ducklake.specs.Refusals.{badExpiryList}
 use Rattle.ducklake.specs.Calls.{expireSnapshots, callRefusals, effect}
-use Rattle.ducklake.proofs.facts.Needs.{first-passed}
+use Rattle.ducklake.proofs.facts.FirstRefusals.{first-passed}
 use Rattle.ducklake.proofs.claim.Accepted.{numbered-call}
 use Rattle.call_laws.specs.Writes.{extendTable}
 use Rattle.call_laws.proofs.Expiry.{scheduledFiles, Expired, expire-words, expire-counts, expire-room}
 use Rattle.call_laws.proofs.Ready.{Ready, ready}
 use Rattle.call_laws.proofs.Refusals.{AcceptedCall, accepted-call}
 use Rattle.expiry.specs.Remaining.{idsIn, Expirable, RemainingIds, snapshotStays}
-use Rattle.expiry.proofs.Relied.{expirable, schema-versions, table-versions, column-versions, files, located, statistics-of-files}
+use Rattle.expiry.proofs.Expirable.{expirable, schema-versions, table-versions, column-versions, files, located, statistics-of-files}
 use Rattle.expiry.proofs.Retained.{kept, files-scheduled}
 use Rattle.snapshot_expiry.specs.declared.definitions.DefinitionCounts.{DefinitionCounts}
 use Rattle.snapshot_expiry.specs.declared.files.FileCounts.{FileCounts}

@@ -8,7 +8,7 @@ use Rattle.layout.specs.declared.outcome.Counts.{Counts}
 use Rattle.layout.specs.Words.{Words}
 use Rattle.ducklake.specs.Refusals.{first}
 use Rattle.ducklake.specs.Soundness.{soundLines, firstUnsound, sound}
-use Rattle.call_laws.proofs.Refusals.{need-pass, fail}
+use Rattle.call_laws.proofs.Refusals.{unless-pass, fail}
 
 -- lines that are left to test, among which the answer is found
 pub record Left (answer : ℕ) : Type 0 where
@@ -42,7 +42,7 @@ first-fails (t ∷ ts) h = fail (t .0) _ h
 
 pub first-holds : (ts : List (ℕ × Bool)) → test ts ≡ true → first ts 0 ≡ first (behind ts) 0
 first-holds [] h = refl
-first-holds (t ∷ ts) h = need-pass (t .0) _ h
+first-holds (t ∷ ts) h = unless-pass (t .0) _ h
 
 module _ {answer : ℕ} (l : Left answer) where
   -- a line that fails is the answer

@@ -9,7 +9,7 @@ ghost use Rattle.layout.specs.Fields.{statisticsSize, statisticsDataFileWord};
 ghost use Rattle.layout.specs.Words.{Words, load, columnsIn, dataFilesIn, statisticsIn};
 ghost use Rattle.ducklake.specs.Soundness.{fileStatisticsSound, statisticsOnFile, statisticsSound};
 ghost use Rattle.lookup.specs.Order.{ColumnsByTable, DataFilesById, StatisticsByFile};
-ghost use Rattle.soundness_statistics.specs.Relied.{StatisticsCheckable};
+ghost use Rattle.soundness_statistics.specs.Checkable.{StatisticsCheckable};
 use crate::fit::statistics_fit;
 use crate::fit::statistics_wanted;
 use layout::outcome::Counts;

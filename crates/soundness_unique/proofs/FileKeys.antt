@@ -20,7 +20,7 @@ use Rattle.ducklake.specs.Soundness.{idsOfFiles, uuidsOfFiles, sameUuid}
 use Rattle.sorting.specs.Keys.{keyAt, sameKey, Put}
 use Rattle.soundness_unique.specs.declared.distinct.FileWords.{FileWords}
 use Rattle.soundness_unique.specs.Files.{dataFileIds, deleteFileIds, scheduledIds, uuidAt, dataFileUuids, deleteFileUuids, scheduledUuids, idsDistinct, uuidsDistinct, fileCount}
-use Rattle.soundness_unique.specs.Relied.{FilesPut}
+use Rattle.soundness_unique.specs.Comparable.{FilesPut}
 use Rattle.soundness_unique.proofs.FileLists.{file-ids, file-uuids}
 
 -- as many numbers as there are files, table by table

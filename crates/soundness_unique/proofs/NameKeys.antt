@@ -26,7 +26,7 @@ use Rattle.sorting.proofs.Putting.{put-next}
 use Rattle.soundness_unique.specs.declared.naming.Group.{Group}
 use Rattle.soundness_unique.specs.declared.naming.Group.the-variants.{All, With}
 use Rattle.soundness_unique.specs.Naming.{nameKeySize, nameKeyBegin, orderKeySize, orderKeyBegin, groupOf, isInside, liveTogether, keysApart, namesApartAt, ordersApartAt, Living, LivesKeyed, NamesLiving, GroupPut, NamesPut}
-use Rattle.soundness_unique.specs.Relied.{Named}
+use Rattle.soundness_unique.specs.Comparable.{Named}
 
 -- a key more, from the first place on
 pub put-on : (f : ℕ → ℕ) (at i : ℕ) (old keys : List ℕ) {v : ℕ} → at < nameKeySize → nameKeySize * i + nameKeySize ≤ length keys → v ≡ f i

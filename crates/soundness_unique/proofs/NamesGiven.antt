@@ -16,7 +16,7 @@ use Rattle.layout.specs.Types.{isType}
 use Rattle.layout.specs.Words.{Words, load, tableLimit}
 use Rattle.ducklake.specs.Liveness.{latestOf, liveAtSome}
 use Rattle.ducklake.specs.Soundness.{inLimit, isFlag, snapshotInRange, schemaInRange, tableInRange, columnInRange, dataFileInRange, deleteFileInRange, statisticsInRange, scheduledInRange, fieldsInRange, lifeSound, livesSound}
-use Rattle.soundness_unique.specs.Relied.{Named}
+use Rattle.soundness_unique.specs.Comparable.{Named}
 
 schema-named : (v : Versioned Schema) → schemaInRange v ≡ true → isName (v .body .name) ≡ true
 unfolding schemaInRange

@@ -1,3 +1,3 @@
 pub mod Files
 pub mod Naming
-pub mod Relied
+pub mod Comparable

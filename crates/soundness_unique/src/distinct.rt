@@ -4,7 +4,7 @@ ghost use Prim.Native.Nat.{ℕ, _*_, _≤_};
 ghost use Rattle.layout.specs.Words.{tableLimit, dataFilesIn, deleteFilesIn, scheduledIn};
 ghost use Rattle.ducklake.specs.Soundness.{idsOfFiles, uuidsOfFiles};
 ghost use Rattle.soundness_unique.specs.Files.{fewFiles, fileCount, idsDistinct, uuidsDistinct, filesDiffer};
-ghost use Rattle.soundness_unique.specs.Relied.{FilesLent, FilesPuttable, FilesPut, FilesSortable};
+ghost use Rattle.soundness_unique.specs.Comparable.{FilesLent, FilesPuttable, FilesPut, FilesSortable};
 use layout::number::TABLE_LIMIT;
 use layout::outcome::Counts;
 use layout::record::DataFileRecord;

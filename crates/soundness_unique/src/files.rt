@@ -8,7 +8,7 @@ ghost use Rattle.lists.specs.Lists.{all};
 ghost use Rattle.layout.specs.Fields.{schemaSize, tableSize};
 ghost use Rattle.layout.specs.Words.{Words, load, schemasIn, tablesIn, dataFilesIn, deleteFilesIn, scheduledIn};
 ghost use Rattle.ducklake.specs.Soundness.{idsOfFiles, idsBelowNext, filesDistinct};
-ghost use Rattle.soundness_unique.specs.Relied.{Numbered, FilesLent, FilesHeld};
+ghost use Rattle.soundness_unique.specs.Comparable.{Numbered, FilesLent, FilesHeld};
 use crate::distinct::FEW_FILES;
 use crate::distinct::all_files_differ;
 use crate::distinct::few_files_differ;

@@ -13,7 +13,7 @@ ghost use Rattle.names.specs.NameWords.{nameWordCount, nameWord};
 ghost use Rattle.sorting.specs.Colliding.{samePrefix};
 ghost use Rattle.sorting.specs.Keys.{Keyed, Put};
 ghost use Rattle.soundness_unique.specs.Naming.{fewRecords, nameKeySize, orderKeySize, isInside, keysApart, namesApartAt, ordersApartAt, Living, LivesKeyed, NamesLiving, Scratch, GroupPut, NamesPut};
-ghost use Rattle.soundness_unique.specs.Relied.{Named};
+ghost use Rattle.soundness_unique.specs.Comparable.{Named};
 use layout::number::TABLE_LIMIT;
 use layout::outcome::Counts;
 use layout::record::ColumnRecord;

@@ -13,8 +13,8 @@ use Rattle.refusals.specs.declared.checked.Checked.{Checked}
 use Rattle.refusals.specs.Checked.{checkedOf}
 use Rattle.refusals.proofs.Laws.{checked-ready}
 use Rattle.table_creation.specs.Lent.{CreateTableLent, createTableLeaves}
-use Rattle.table_creation.specs.Relied.{TableChecked, TableRoom}
-use Rattle.table_creation.proofs.Relied.{table-checked, create-table-relies}
+use Rattle.table_creation.specs.TableRoom.{TableChecked, TableRoom}
+use Rattle.table_creation.proofs.TableRoom.{table-checked, create-table-relies}
 
 abbrev pub create-table-lent : (w : Words) (c : Counts) {checked : Checked} → checked ≡ checkedOf w c
     → CreateTableLent checked (w .snapshots) (w .schemas) (w .tables) (w .tableNames) (w .columns) (w .columnNames) c

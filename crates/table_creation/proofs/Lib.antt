@@ -3,4 +3,4 @@ pub mod Effects
 pub mod Fits
 pub mod Judged
 pub mod Lent
-pub mod Relied
+pub mod TableRoom

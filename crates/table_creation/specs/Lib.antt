@@ -1,4 +1,4 @@
 pub mod Appended
 pub mod Columns
 pub mod Lent
-pub mod Relied
+pub mod TableRoom

@@ -5,7 +5,7 @@ ghost use Rattle.layout.specs.Words.{Words};
 ghost use Rattle.ducklake.specs.Commits.{createTable};
 ghost use Rattle.ducklake.specs.Calls.{commitAt, refusal};
 ghost use Rattle.refusals.specs.Checked.{checkedOf};
-ghost use Rattle.table_creation.specs.Relied.{TableChecked};
+ghost use Rattle.table_creation.specs.TableRoom.{TableChecked};
 use crate::columns::columns_fit;
 use crate::room::table_added;
 use commits::name::table_name_is_free;

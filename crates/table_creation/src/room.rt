@@ -1,6 +1,6 @@
 ghost use mathlib.Core.Path.{_≡_};
 ghost use Rattle.ducklake.specs.Arguments.{columnArguments};
-ghost use Rattle.table_creation.specs.Relied.{tableAdded};
+ghost use Rattle.table_creation.specs.TableRoom.{tableAdded};
 use crate::argument::column_count;
 use layout::outcome::Counts;
 

@@ -4,7 +4,7 @@ ghost use Rattle.layout.specs.Words.{Words, load, store, fits};
 ghost use Rattle.ducklake.specs.Commits.{createTable};
 ghost use Rattle.ducklake.specs.Calls.{commitAt, effect};
 ghost use Rattle.table_creation.specs.Lent.{createTableLeaves};
-ghost use Rattle.table_creation.specs.Relied.{TableRoom};
+ghost use Rattle.table_creation.specs.TableRoom.{TableRoom};
 use crate::append::append_columns;
 use commits::append::append_snapshot;
 use commits::append::append_table;

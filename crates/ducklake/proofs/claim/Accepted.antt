@@ -15,7 +15,7 @@ use Rattle.layout.specs.Words.{Words, load}
 use Rattle.layout.specs.Catalog.{absent, Scheduled, Catalog}
 use Rattle.ducklake.specs.Liveness.{retained, latest, latestId}
 use Rattle.ducklake.specs.Soundness.{fileIds, sound}
-use Rattle.ducklake.specs.Refusals.{accepted, notSound, noRoom, shortAnswerArea, expiresLatest, notRetained, numberTooLarge, need, first}
+use Rattle.ducklake.specs.Refusals.{accepted, notSound, noRoom, shortAnswerArea, expiresLatest, notRetained, numberTooLarge, refuseUnless, first}
 use Rattle.ducklake.specs.Commits.{Commit, changeOf, nextSnapshot, commit, numbersFit}
 use Rattle.ducklake.specs.Readings.{Query, queryAnswer, queryRefusals}
 use Rattle.ducklake.specs.Maintenance.{expire, due, handedOut, cleanup}
@@ -23,7 +23,7 @@ use Rattle.ducklake.specs.Calls.{Call, commitAt, expireSnapshots, cleanU
 use Rattle.ducklake.specs.Journal.{Journal}
 use Rattle.ducklake.specs.Claim.{journalAfter, expiredBy, fileIdsOf, timeOf}
 use Rattle.ducklake.proofs.facts.Facts.{Sound}
-use Rattle.ducklake.proofs.facts.Needs.{NumberedFrom, AllPassed, need-passed, numbered-append, first-append, first-zero, first-passed}
+use Rattle.ducklake.proofs.facts.FirstRefusals.{NumberedFrom, AllPassed, unless-passed, numbered-append, first-append, first-zero, first-passed}
 use Rattle.ducklake.proofs.commits.Good.{Good, Chain}
 use Rattle.ducklake.proofs.readings.Frames.{commit-judge, commit-answer, expire-judge, expire-answer, cleanup-judge, cleanup-answer}
 use Rattle.ducklake.proofs.commits.Soundness.{commit-latest, next-small, commit-count, commit-sound}
@@ -133,14 +133,14 @@ numbered-call C (cleanUp t) = tt
 
 -- 1, then the call's own, then 2 and 3
 pub refusal-parts : (w : Words) (c : Counts) (m : ℕ) (k : Call) → refusal w c m k
-    ≡ need notSound (sound w c) (first (callRefusals (load w c) k) (need noRoom (hasRoom w (effect (load w c) k)) (need shortAnswerArea (leb (length (answer (load w c) k)) m) accepted)))
+    ≡ refuseUnless notSound (sound w c) (first (callRefusals (load w c) k) (refuseUnless noRoom (hasRoom w (effect (load w c) k)) (refuseUnless shortAnswerArea (leb (length (answer (load w c) k)) m) accepted)))
 unfolding refusal
-refusal-parts w c m k = ap (need notSound (sound w c)) (first-append (callRefusals (load w c) k) _ accepted)
+refusal-parts w c m k = ap (refuseUnless notSound (sound w c)) (first-append (callRefusals (load w c) k) _ accepted)
 
 pub moved : (C : Catalog) → Sound C → Chain C → (k : Call) → first (callRefusals C k) 0 ≡ 0 → Moved C k
 moved C S H (commitAt terms k) h =
     let a = first-zero (refusals C terms k) _ (numbered C terms k) (sym (first-append (refusals C terms k) _ 0) ∙ h) in
-    committed C S H terms k (first-passed (refusals C terms k) (numbered C terms k) (a .0)) (need-passed numberTooLarge (numbersFit C (changeOf C (terms .time) k)) 0 (omega arith) (a .1) .0)
+    committed C S H terms k (first-passed (refusals C terms k) (numbered C terms k) (a .0)) (unless-passed numberTooLarge (numbersFit C (changeOf C (terms .time) k)) 0 (omega arith) (a .1) .0)
 moved C S H (expireSnapshots ids time) h =
     let p = first-passed (callRefusals C (expireSnapshots ids time)) (omega arith) h in
     expired C S H ids time (p notRetained) (p expiresLatest)

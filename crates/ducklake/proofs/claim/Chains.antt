@@ -22,7 +22,7 @@ use Rattle.ducklake.specs.Commits.{Commit, createSchema, createTable, in
 use Rattle.ducklake.specs.Maintenance.{expire, cleanup}
 use Rattle.ducklake.specs.Calls.{refusals}
 use Rattle.ducklake.proofs.facts.Facts.{DeleteFileIn, Sound}
-use Rattle.ducklake.proofs.facts.Needs.{AllPassed}
+use Rattle.ducklake.proofs.facts.FirstRefusals.{AllPassed}
 use Rattle.ducklake.proofs.facts.Below.{dataFile-below}
 use Rattle.ducklake.proofs.commits.Moves.{close-step, close-named, close-other, in-born, latest-small}
 use Rattle.ducklake.proofs.commits.Good.{nextId, dataFileNext, deleteFileNext, bornDeleteFiles, bornDataFiles, Covers, Chain}

@@ -23,7 +23,7 @@ use Rattle.ducklake.specs.Refusals.{accepted, noRoom, notSound, first}
 use Rattle.ducklake.specs.Calls.{Call, commitAt, expireSnapshots, cleanUp, callRefusals, effect, answer, hasRoom, refusal, Result, perform}
 use Rattle.ducklake.specs.Claim.{Step, State, isListed, journalAfter, expiredBy, fileIdsOf, handedBy, timeOf, advanced, fallenBetween, acceptedStep, refusedStep, step, run}
 use Rattle.ducklake.proofs.facts.Facts.{Sound}
-use Rattle.ducklake.proofs.facts.Needs.{need-passed, first-zero}
+use Rattle.ducklake.proofs.facts.FirstRefusals.{unless-passed, first-zero}
 use Rattle.ducklake.proofs.commits.Good.{Chain}
 use Rattle.ducklake.proofs.claim.Retained.{Tally}
 use Rattle.ducklake.proofs.journal.Journals.{JournalOk}
@@ -46,9 +46,9 @@ front words area = ap (λ n. take n (overwrite area 0 words)) (sym (zero-add (le
 refusal-passed : (w : Words) (c : Counts) (n : ℕ) (k : Call) → refusal w c n k ≡ accepted → (first (callRefusals (load w c) k) accepted ≡ 0) × (within (countsOf (effect (load w c) k)) (capacity w) ≡ true)
 unfolding hasRoom
 refusal-passed w c n k h =
-    let a = need-passed notSound (sound w c) _ (omega arith) (sym (refusal-parts w c n k) ∙ h) in
+    let a = unless-passed notSound (sound w c) _ (omega arith) (sym (refusal-parts w c n k) ∙ h) in
     let b = first-zero (callRefusals (load w c) k) _ (numbered-call (load w c) k) (a .1) in
-    (b .0, need-passed noRoom (within (countsOf (effect (load w c) k)) (capacity w)) _ (omega arith) (b .1) .0)
+    (b .0, unless-passed noRoom (within (countsOf (effect (load w c) k)) (capacity w)) _ (omega arith) (b .1) .0)
 
 pub performed : (k : Call) (w : Words) (c : Counts) (area : List ℕ) → eqb (perform k w c area .number) accepted ≡ true → Performed k w c area
 unfolding perform

@@ -15,7 +15,7 @@ use Rattle.layout.specs.Words.{Words, load, store, countsOf, capacity, within, 
 use Rattle.layout.proofs.RoundTrip.{load-store, fits-store}
 use Rattle.ducklake.specs.Liveness.{retained, latest, isLive}
 use Rattle.ducklake.specs.Soundness.{idsOfFiles, fileIds}
-use Rattle.ducklake.specs.Refusals.{accepted, idOfTable, noSuchId, need}
+use Rattle.ducklake.specs.Refusals.{accepted, idOfTable, noSuchId, refuseUnless}
 use Rattle.ducklake.specs.Commits.{freshCatalog}
 use Rattle.ducklake.specs.Readings.{Query, files, rows}
 use Rattle.ducklake.specs.Calls.{hasRoom, noCounts, performFresh}
@@ -150,7 +150,7 @@ module _ (S S′ : State) (I : Inv S) (I′ : Inv S′) (L : Later S S′) where
 module _ (S : State) (I : Inv S) where
   rows-as-journaled : (s table : ℕ) → isRetained S s ≡ true
       → readingOf (S .words) (S .counts) s (rows table)
-      ≡ record { number = need (noSuchId (catalogOf S) idOfTable table) (S .journal .page s table .present) accepted; words = cond (S .journal .page s table .present) (S .journal .page s table .rows) [] }
+      ≡ record { number = refuseUnless (noSuchId (catalogOf S) idOfTable table) (S .journal .page s table .present) accepted; words = cond (S .journal .page s table .present) (S .journal .page s table .rows) [] }
   rows-as-journaled s table h =
       let r = retained-is (I .tables) s ∙ h in
       let o = I .tables .journal .pages s r table in
@@ -160,7 +160,7 @@ module _ (S : State) (I : Inv S) where
       (λ b. rw (o .present, b)))
 
   file-lists-as-journaled : (s table : ℕ) → isRetained S s ≡ true
-      → readingOf (S .words) (S .counts) s (files table) .number ≡ need (noSuchId (catalogOf S) idOfTable table) (S .journal .page s table .present) accepted
+      → readingOf (S .words) (S .counts) s (files table) .number ≡ refuseUnless (noSuchId (catalogOf S) idOfTable table) (S .journal .page s table .present) accepted
   file-lists-as-journaled s table h =
       let r = retained-is (I .tables) s ∙ h in
       ap (λ a. a .number) (reading-is (S .words) (S .counts) s (files table) (sound-words (I .tables)) r) ∙ rw (I .tables .journal .pages s r table .present)

@@ -8,7 +8,7 @@ use Rattle.ducklake.specs.Refusals.{notLive, timeFalls, badName, nameTak
 use Rattle.ducklake.specs.Commits.{Commit, createSchema, createTable, insert, delete, dropTable, dropSchema, changeOf, numbersFit}
 use Rattle.ducklake.specs.Calls.{refusals}
 use Rattle.ducklake.proofs.facts.Facts.{Sound}
-use Rattle.ducklake.proofs.facts.Needs.{NumberedFrom, AllPassed}
+use Rattle.ducklake.proofs.facts.FirstRefusals.{NumberedFrom, AllPassed}
 use Rattle.ducklake.proofs.commits.Good.{Good, Chain}
 use Rattle.ducklake.proofs.commits.Creates.{createSchema-good, createTable-good}
 use Rattle.ducklake.proofs.commits.Inserts.{insert-good}

@@ -21,7 +21,7 @@ use Rattle.layout.specs.Words.{Words, load, capacity, within, fits}
 use Rattle.ducklake.specs.Kinds.{isKind}
 use Rattle.ducklake.specs.Liveness.{live, liveAtSome, latest, latestId, columnsAt}
 use Rattle.ducklake.specs.Soundness.{snapshotInRange, schemaInRange, tableInRange, columnInRange, dataFileInRange, deleteFileInRange, statisticsInRange, scheduledInRange, fieldsInRange, follows, snapshotsRise, lifeSound, livesSound, byId, byTableAndId, byFileAndColumn, idsAscend, fileIds, fileUuids, sameUuid, idsBelowNext, filesDistinct, contains, sameLife, tableNests, columnNests, dataFileNests, deleteFileNests, livesNest, overlap, schemasApart, tablesApart, columnsApart, namesApart, succeededBy, deleteFilesApart, positionsSound, deletesSound, rowIdEnd, rowsBefore, rowsInTable, rowRangesSound, fileStatisticsSound, statisticsOnFile, statisticsSound, columnCountSound, columnCountsSound, soundLines, positionsAddUp, firstUnsound, sound}
-use Rattle.ducklake.proofs.facts.Needs.{AllPassed, first-passed}
+use Rattle.ducklake.proofs.facts.FirstRefusals.{AllPassed, first-passed}
 
 -- a test that is passed
 abbrev pub Passed : {A : Type 0} → (A → Bool) → A → Type 0

@@ -22,7 +22,7 @@ use Rattle.ducklake.specs.Maintenance.{expire, cleanup}
 use Rattle.ducklake.specs.Calls.{refusals}
 use Rattle.ducklake.specs.Journal.{TableRows, noTableRows, Journal, updated, lastPage, journaled}
 use Rattle.ducklake.proofs.facts.Facts.{Sound}
-use Rattle.ducklake.proofs.facts.Needs.{AllPassed}
+use Rattle.ducklake.proofs.facts.FirstRefusals.{AllPassed}
 use Rattle.ducklake.proofs.facts.Below.{dataFile-below}
 use Rattle.ducklake.proofs.commits.Good.{nextId, Good, Chain}
 use Rattle.ducklake.proofs.readings.Frames.{expire-tableLive, expire-answer, cleanup-answer}

@@ -16,11 +16,11 @@ use Rattle.layout.specs.Catalog.{Catalog}
 use Rattle.layout.specs.Words.{Words, load}
 use Rattle.ducklake.specs.Liveness.{retained}
 use Rattle.ducklake.specs.Soundness.{sound}
-use Rattle.ducklake.specs.Refusals.{accepted, notSound, shortAnswerArea, need, first}
+use Rattle.ducklake.specs.Refusals.{accepted, notSound, shortAnswerArea, refuseUnless, first}
 use Rattle.ducklake.specs.Readings.{Query, schemas, tables, columns, tableNamed, files, filteredFiles, rows, queryAnswer, queryRefusals}
 use Rattle.ducklake.specs.Calls.{Reading, queryAt, byTime, readingRefusals, readingAnswer, readingRefusal, performReading}
 use Rattle.ducklake.specs.Claim.{Answer, answerOf, readingOf}
-use Rattle.ducklake.proofs.facts.Needs.{NumberedFrom, first-append}
+use Rattle.ducklake.proofs.facts.FirstRefusals.{NumberedFrom, first-append}
 
 -- tests in a row: they give the rest, or one number whatever the rest
 data Settles (f : ℕ → ℕ) : Type 0 where
@@ -32,7 +32,7 @@ settle : (ts : List (ℕ × Bool)) → NumberedFrom 4 ts → Settles (first ts)
 settle [] n = passes (λ rest. refl)
 settle (t ∷ ts) n = tested (t .0) (t .1) (n .0) (settle ts (n .1))
   where
-    tested : (number : ℕ) (b : Bool) → 4 ≤ number → {f : ℕ → ℕ} → Settles f → Settles (λ rest. need number b (f rest))
+    tested : (number : ℕ) (b : Bool) → 4 ≤ number → {f : ℕ → ℕ} → Settles f → Settles (λ rest. refuseUnless number b (f rest))
     tested number true l s = s
     tested zero false l s = absurd (omega arith)
     tested (suc k) false l s = stops k (λ e. omega arith) (λ rest. refl)
@@ -52,9 +52,9 @@ numbered-reading C (byTime t) = omega arith
 
 -- 1, then the reading's own, then 3
 pub reading-parts : (w : Words) (c : Counts) (m : ℕ) (r : Reading) → readingRefusal w c m r
-    ≡ need notSound (sound w c) (first (readingRefusals (load w c) r) (need shortAnswerArea (leb (length (readingAnswer (load w c) r)) m) accepted))
+    ≡ refuseUnless notSound (sound w c) (first (readingRefusals (load w c) r) (refuseUnless shortAnswerArea (leb (length (readingAnswer (load w c) r)) m) accepted))
 unfolding readingRefusal
-reading-parts w c m r = ap (need notSound (sound w c)) (first-append (readingRefusals (load w c) r) _ accepted)
+reading-parts w c m r = ap (refuseUnless notSound (sound w c)) (first-append (readingRefusals (load w c) r) _ accepted)
 
 -- a reading's answer, by its number
 abbrev pub numbered : ℕ → List ℕ → Answer
@@ -62,17 +62,17 @@ numbered number words = record { number = number; words = cond (eqb number accep
 
 module _ (w : Words) (c : Counts) (s : ℕ) (q : Query) where
   tested : ℕ → ℕ
-  tested rest = need notSound (sound w c) (first (readingRefusals (load w c) (queryAt s q)) rest)
+  tested rest = refuseUnless notSound (sound w c) (first (readingRefusals (load w c) (queryAt s q)) rest)
 
   settle-tested : Settles tested
   unfolding tested
   settle-tested = sound-first (sound w c) (settle (readingRefusals (load w c) (queryAt s q)) (numbered-reading (load w c) (queryAt s q)))
     where
-      sound-first : (b : Bool) {f : ℕ → ℕ} → Settles f → Settles (λ rest. need notSound b (f rest))
+      sound-first : (b : Bool) {f : ℕ → ℕ} → Settles f → Settles (λ rest. refuseUnless notSound b (f rest))
       sound-first true s = s
       sound-first false s = stops 0 (λ e. omega arith) (λ rest. refl)
 
-  parts : (m : ℕ) → readingRefusal w c m (queryAt s q) ≡ tested (need shortAnswerArea (leb (length (queryAnswer (load w c) s q)) m) accepted)
+  parts : (m : ℕ) → readingRefusal w c m (queryAt s q) ≡ tested (refuseUnless shortAnswerArea (leb (length (queryAnswer (load w c) s q)) m) accepted)
   unfolding tested readingAnswer
   parts m = reading-parts w c m (queryAt s q)
 

@@ -5,7 +5,7 @@ use native.Mathlib.Numerals.{add-one}
 use native.Mathlib.Omega.{arith}
 use Rattle.layout.specs.Catalog.{Snapshot}
 use Rattle.ducklake.proofs.commits.Moves.{SmallSnapshot, reflects-small}
-use Rattle.commits.specs.Relied.{CanFollow}
+use Rattle.commits.specs.LentRecords.{CanFollow}
 use Rattle.commits.proofs.number.next_snapshot.Statement.{statement}
 use Rattle.commits.proofs.number.next_snapshot.Tie as tie
 

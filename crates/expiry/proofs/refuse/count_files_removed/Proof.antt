@@ -3,7 +3,7 @@ use borrow.Author.Needs.{needs}
 use native.Mathlib.Omega.{arith}
 use Rattle.lists.proofs.Tests.{clash, passed, failed}
 use Rattle.expiry.proofs.Refused.{places-most, files-removed}
-use Rattle.expiry.proofs.Relied.{list-ascends}
+use Rattle.expiry.proofs.Expirable.{list-ascends}
 use Rattle.expiry.proofs.refuse.count_files_removed.Statement.{statement}
 use Rattle.expiry.proofs.refuse.count_files_removed.Tie as tie
 

@@ -10,7 +10,7 @@ use Rattle.call_laws.proofs.CommitCounts.{delete-adds}
 use Rattle.refusals.proofs.Laws.{is-sound, room-as, unsound}
 use Rattle.refusals.proofs.Tests.{_then_, done, commit-judged}
 use Rattle.commits.proofs.Judged.{time-as, data-file-live-as}
-use Rattle.row_deletion.specs.Relied.{DeleteChecked}
+use Rattle.row_deletion.specs.DeleteRoom.{DeleteChecked}
 use Rattle.row_deletion.proofs.Judges.{fit-as, moves-as, undeleted-as, adds-as}
 use Rattle.row_deletion.proofs.Lent.{lent-checked, lent-deleted}
 use Rattle.row_deletion.proofs.refuse.refuse_delete.Statement.{statement}

@@ -1,7 +1,7 @@
 -- `expire_snapshots` keeps the promise: refused it leaves all as it was, accepted its writes are the effect and its counts those of the effect.
 use mathlib.Core.Path.{refl}
 use Rattle.refusals.proofs.Laws.{checked-ready}
-use Rattle.expiry.proofs.Relied.{expiry-checked}
+use Rattle.expiry.proofs.Expirable.{expiry-checked}
 use Rattle.snapshot_expiry.proofs.Promised.{not-refused, expiry-refused, expiry-accepted}
 use Rattle.snapshot_expiry.proofs.expire.expire_snapshots.Statement.{statement}
 use Rattle.snapshot_expiry.proofs.expire.expire_snapshots.Tie as tie

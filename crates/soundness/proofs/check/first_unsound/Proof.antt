@@ -8,7 +8,7 @@ use Rattle.layout.specs.Catalog.{Catalog}
 use Rattle.layout.specs.Words.{Words, load, capacity, within}
 use Rattle.ducklake.specs.Soundness.{fieldsInRange, snapshotsRise, livesSound, idsAscend, idsBelowNext, filesDistinct, livesNest, namesApart, deletesSound, rowRangesSound, statisticsSound, columnCountsSound, positionsAddUp, firstUnsound}
 use Rattle.soundness.proofs.Lines.{Left, all-left, stops, goes-on, ends, by-first, by-second}
-use Rattle.soundness.proofs.Relied.{fields-lent, snapshots-lent, lives-lent, ids-lent, numbered, files-held, nestable, named, delete-files-lent, deletes-checkable, row-ranges-checkable, statistics-checkable, tables-and-columns}
+use Rattle.soundness.proofs.TestPremises.{fields-lent, snapshots-lent, lives-lent, ids-lent, numbered, files-held, nestable, named, delete-files-lent, deletes-checkable, row-ranges-checkable, statistics-checkable, tables-and-columns}
 use Rattle.soundness.proofs.check.first_unsound.Statement.{statement}
 use Rattle.soundness.proofs.check.first_unsound.Tie as tie
 

@@ -1,7 +1,7 @@
 -- `table_added` meets its contract: it is the definition, with as many columns as the argument has.
 use borrow.Author.Needs.{needs}
 use mathlib.Core.Path.{ap}
-use Rattle.table_creation.specs.Relied.{tableAdded}
+use Rattle.table_creation.specs.TableRoom.{tableAdded}
 use Rattle.table_creation.proofs.room.table_added.Statement.{statement}
 use Rattle.table_creation.proofs.room.table_added.Tie as tie
 

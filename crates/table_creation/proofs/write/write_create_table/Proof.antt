@@ -1,7 +1,7 @@
 -- `write_create_table` meets its contract: the snapshot, the table and the columns that are appended are those of the effect.
 use borrow.Author.Needs.{needs}
 use Rattle.table_creation.proofs.Effects.{create-table-stored}
-use Rattle.table_creation.proofs.Relied.{columns-room-as}
+use Rattle.table_creation.proofs.TableRoom.{columns-room-as}
 use Rattle.table_creation.proofs.write.write_create_table.Statement.{statement}
 use Rattle.table_creation.proofs.write.write_create_table.Tie as tie
 

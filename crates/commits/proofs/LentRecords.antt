@@ -3,7 +3,7 @@ use Rattle.layout.specs.declared.outcome.Counts.{Counts}
 use Rattle.layout.specs.Fields.{schemaSize, tableSize}
 use Rattle.layout.specs.Words.{Words}
 use Rattle.call_laws.proofs.Ready.{Ready}
-use Rattle.commits.specs.Relied.{WithNames, FilesLent}
+use Rattle.commits.specs.LentRecords.{WithNames, FilesLent}
 
 module _ (w : Words) (c : Counts) (R : Ready w c) where
   pub schemas-named : WithNames schemaSize (w .schemas) (w .schemaNames) (c .schemas)

@@ -18,7 +18,7 @@ use Rattle.ducklake.specs.Liveness.{deletedAt}
 use Rattle.ducklake.specs.Refusals.{badPositions}
 use Rattle.ducklake.specs.Commits.{delete}
 use Rattle.ducklake.specs.Calls.{commitAt, callRefusals}
-use Rattle.ducklake.proofs.facts.Needs.{first-passed}
+use Rattle.ducklake.proofs.facts.FirstRefusals.{first-passed}
 use Rattle.ducklake.proofs.claim.Accepted.{numbered-call}
 use Rattle.call_laws.specs.Writes.{addCounts}
 use Rattle.call_laws.proofs.Commits.{held-after}
@@ -26,10 +26,10 @@ use Rattle.call_laws.proofs.CommitCounts.{delete-adds}
 use Rattle.call_laws.proofs.Ready.{Ready, ready, one-delete-file, positions-ascend}
 use Rattle.call_laws.proofs.Refusals.{AcceptedCall}
 use Rattle.lookup.specs.Order.{DataFilesById}
-use Rattle.commits.proofs.Relied.{files-lent}
+use Rattle.commits.proofs.LentRecords.{files-lent}
 use Rattle.commits.proofs.Room.{snapshot-room}
 use Rattle.row_deletion.specs.Deleted.{DeletesKnown}
-use Rattle.row_deletion.specs.Relied.{DeleteChecked, OffenceSought, DeleteRoom}
+use Rattle.row_deletion.specs.DeleteRoom.{DeleteChecked, OffenceSought, DeleteRoom}
 use Rattle.row_deletion.proofs.Judges.{positions-ascending, Offence}
 
 module _ (w : Words) (c : Counts) (R : Ready w c) where

@@ -8,12 +8,12 @@ use lib.Dec.{eqb}
 use borrow.Author.Tests.{ne-eqb}
 use Rattle.lists.specs.Lists.{all}
 use Rattle.lists.proofs.Tests.{if}
-use Rattle.ducklake.specs.Refusals.{need, first}
+use Rattle.ducklake.specs.Refusals.{refuseUnless, first}
 
 -- a test before the rest comes to 0 just where it is passed and the rest is 0
-pub need-passed : (n : ℕ) (b : Bool) (rest : ℕ) → 1 ≤ n → need n b rest ≡ 0 → (b ≡ true) × (rest ≡ 0)
-need-passed n true rest l h = (refl, h)
-need-passed n false rest l h = absurd (omega arith)
+pub unless-passed : (n : ℕ) (b : Bool) (rest : ℕ) → 1 ≤ n → refuseUnless n b rest ≡ 0 → (b ≡ true) × (rest ≡ 0)
+unless-passed n true rest l h = (refl, h)
+unless-passed n false rest l h = absurd (omega arith)
 
 -- no number is below this one
 abbrev pub NumberedFrom : ℕ → List (ℕ × Bool) → Type 0
@@ -26,13 +26,13 @@ numbered-append least (t ∷ ts) us n m = (n .0, numbered-append least ts us (n 
 
 pub first-append : (ts us : List (ℕ × Bool)) (rest : ℕ) → first (ts ++ us) rest ≡ first ts (first us rest)
 first-append [] us rest = refl
-first-append (t ∷ ts) us rest = ap (need (t .0) (t .1)) (first-append ts us rest)
+first-append (t ∷ ts) us rest = ap (refuseUnless (t .0) (t .1)) (first-append ts us rest)
 
 -- refusals come to 0 just where each test is passed and the rest is 0
 pub first-zero : (ts : List (ℕ × Bool)) (rest : ℕ) → NumberedFrom 1 ts → first ts rest ≡ 0 → (first ts 0 ≡ 0) × (rest ≡ 0)
 first-zero [] rest n h = (refl, h)
 first-zero (t ∷ ts) rest n h =
-    let z = need-passed (t .0) (t .1) (first ts rest) (n .0) h in
+    let z = unless-passed (t .0) (t .1) (first ts rest) (n .0) h in
     let r = first-zero ts rest (n .1) (z .1) in
     (rw (z .0) (r .0), r .1)
 
@@ -53,5 +53,5 @@ AllPassed ts = (number : ℕ) → testOf ts number ≡ true
 pub first-passed : (ts : List (ℕ × Bool)) → NumberedFrom 1 ts → first ts 0 ≡ 0 → AllPassed ts
 first-passed [] n h number = refl
 first-passed (t ∷ ts) n h number =
-    let z = need-passed (t .0) (t .1) (first ts 0) (n .0) h in
+    let z = unless-passed (t .0) (t .1) (first ts 0) (n .0) h in
     if (eqb (t .0) number) (λ e. rw e (z .0)) (λ e. rw e (first-passed ts (n .1) (z .1) number))

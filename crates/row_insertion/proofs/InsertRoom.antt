@@ -16,7 +16,7 @@ use Rattle.ducklake.specs.Refusals.{badRecordCount}
 use Rattle.ducklake.specs.Soundness.{isRecordCount}
 use Rattle.ducklake.specs.Commits.{insert}
 use Rattle.ducklake.specs.Calls.{commitAt, callRefusals}
-use Rattle.ducklake.proofs.facts.Needs.{first-passed}
+use Rattle.ducklake.proofs.facts.FirstRefusals.{first-passed}
 use Rattle.ducklake.proofs.claim.Accepted.{numbered-call}
 use Rattle.call_laws.specs.Writes.{addCounts}
 use Rattle.call_laws.proofs.Commits.{held-after}
@@ -24,7 +24,7 @@ use Rattle.call_laws.proofs.CommitCounts.{insert-adds}
 use Rattle.call_laws.proofs.Ready.{Ready, ready, table-small}
 use Rattle.call_laws.proofs.Refusals.{AcceptedCall}
 use Rattle.lookup.specs.Order.{TablesById}
-use Rattle.commits.proofs.Relied.{files-lent}
+use Rattle.commits.proofs.LentRecords.{files-lent}
 use Rattle.commits.proofs.Room.{snapshot-room}
 use Rattle.row_insertion.specs.Written.{InsertChecked, InsertRoom}
 

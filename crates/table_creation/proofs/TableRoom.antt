@@ -11,17 +11,17 @@ use Rattle.ducklake.specs.Refusals.{badName, badColumns}
 use Rattle.ducklake.specs.Commits.{createTable}
 use Rattle.ducklake.specs.Calls.{Call, commitAt, callRefusals}
 use Rattle.ducklake.proofs.claim.Accepted.{numbered-call}
-use Rattle.ducklake.proofs.facts.Needs.{AllPassed, first-passed}
+use Rattle.ducklake.proofs.facts.FirstRefusals.{AllPassed, first-passed}
 use Rattle.call_laws.specs.Writes.{addCounts}
 use Rattle.call_laws.proofs.Commits.{held-after}
 use Rattle.call_laws.proofs.CommitCounts.{create-table-adds}
 use Rattle.call_laws.proofs.Ready.{Ready, ready}
 use Rattle.call_laws.proofs.Refusals.{AcceptedCall}
 use Rattle.commits.proofs.Judged.{name-short}
-use Rattle.commits.proofs.Relied.{tables-named}
+use Rattle.commits.proofs.LentRecords.{tables-named}
 use Rattle.commits.proofs.Room.{snapshot-room}
 use Rattle.table_creation.specs.Appended.{ColumnsRoom}
-use Rattle.table_creation.specs.Relied.{TableChecked, TableRoom}
+use Rattle.table_creation.specs.TableRoom.{TableChecked, TableRoom}
 
 pub table-checked : (w : Words) (c : Counts) → Ready w c → TableChecked (w .snapshots) (w .schemas) (w .tables) (w .tableNames) c
 table-checked w c R =

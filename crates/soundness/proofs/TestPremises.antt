@@ -23,8 +23,8 @@ use Rattle.soundness_deletes.specs.Rows.{RowRangesCheckable}
 use Rattle.soundness_fields.specs.Lent.{FieldsLent, IdsLent}
 use Rattle.soundness_fields.proofs.Ids.{IdsFound, ids-found, snapshots-found}
 use Rattle.soundness_lives.specs.Lent.{LivesLent, Nestable}
-use Rattle.soundness_statistics.specs.Relied.{StatisticsCheckable}
-use Rattle.soundness_unique.specs.Relied.{FilesHeld, Numbered, Named}
+use Rattle.soundness_statistics.specs.Checkable.{StatisticsCheckable}
+use Rattle.soundness_unique.specs.Comparable.{FilesHeld, Numbered, Named}
 use Rattle.soundness_unique.proofs.NamesGiven.{names-given}
 
 fifth : (a b c d e f g h : Bool) → (a && b && c && d && e && f && g && h) ≡ true → e ≡ true

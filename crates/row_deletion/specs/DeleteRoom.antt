@@ -10,7 +10,7 @@ use Rattle.layout.specs.declared.outcome.Counts.{Counts}
 use Rattle.layout.specs.Fields.{deleteFileSize}
 use Rattle.layout.specs.Words.{positionsBefore}
 use Rattle.call_laws.specs.Latest.{HasLatest}
-use Rattle.commits.specs.Relied.{FilesLent}
+use Rattle.commits.specs.LentRecords.{FilesLent}
 use Rattle.commits.specs.Written.{SnapshotRoom}
 use Rattle.lookup.specs.Order.{DataFilesById}
 use Rattle.row_deletion.specs.Deleted.{DeletesKnown, deletedIn}

@@ -4,8 +4,8 @@ use mathlib.Core.Path.{_∙_}
 use Rattle.ducklake.specs.Calls.{perform}
 use Rattle.diary_session.specs.Session.{insertTwo, deleteOne, deleteZero, ended}
 use Rattle.diary_session.proofs.Chains.{promise-on}
-use Rattle.diary.proofs.session.end_session.Statement.{statement}
-use Rattle.diary.proofs.session.end_session.Tie as tie
+use Rattle.diary_changes.proofs.end_session.Statement.{statement}
+use Rattle.diary_changes.proofs.end_session.Tie as tie
 
 -- what is known after each call, from the end on: a search goes half way from one call to the one before
 abbrev zero : tie.After-slice-known52 → tie.After-catalog-delete2

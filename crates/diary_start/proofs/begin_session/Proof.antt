@@ -4,9 +4,9 @@ use mathlib.Core.Path.{_∙_}
 use Rattle.ducklake.specs.Calls.{perform}
 use Rattle.diary_session.specs.Session.{createDiary, insertThree, begun}
 use Rattle.diary_session.proofs.Chains.{promise-on}
-use Rattle.diary.proofs.ColumnNames.{promise-named}
-use Rattle.diary.proofs.session.begin_session.Statement.{statement}
-use Rattle.diary.proofs.session.begin_session.Tie as tie
+use Rattle.diary_start.proofs.ColumnNames.{promise-named}
+use Rattle.diary_start.proofs.begin_session.Statement.{statement}
+use Rattle.diary_start.proofs.begin_session.Tie as tie
 
 -- what is known after each call, from the end on: a search goes half way from one call to the one before
 abbrev three : tie.After-slice-known52 → tie.After-catalog-insert

@@ -7,7 +7,7 @@ use Rattle.layout.specs.Words.{snapshotsIn}
 use Rattle.ducklake.specs.Liveness.{latestOf}
 use Rattle.call_laws.specs.Latest.{HasLatest}
 use Rattle.lookup.specs.Order.{SchemasById}
-use Rattle.commits.specs.Relied.{WithNames}
+use Rattle.commits.specs.LentRecords.{WithNames}
 use Rattle.commits.specs.Written.{SnapshotRoom, NamedRoom}
 use Rattle.table_creation.specs.Appended.{ColumnsRoom}
 
