@@ -28,22 +28,25 @@ pub record Words : Type 0 where
   pub statistics : List ℕ
   pub scheduled : List ℕ
 
--- the runs that a function is lent, in the order of its parameters
-abbrev pub lent : List ℕ → List ℕ → List ℕ → List ℕ → List ℕ → List ℕ → List ℕ → List ℕ → List ℕ → List ℕ → List ℕ → List ℕ → Words
-lent snapshots schemas schemaNames tables tableNames columns columnNames dataFiles deleteFiles positions statistics scheduled = record {
-  snapshots = snapshots;
-  schemas = schemas;
-  schemaNames = schemaNames;
-  tables = tables;
-  tableNames = tableNames;
-  columns = columns;
-  columnNames = columnNames;
-  dataFiles = dataFiles;
-  deleteFiles = deleteFiles;
-  positions = positions;
-  statistics = statistics;
-  scheduled = scheduled;
+-- the runs that a function is lent, in the order of its parameters, each as `read` reads it
+abbrev pub lentBy : {A : Type 0} → (A → List ℕ) → A → A → A → A → A → A → A → A → A → A → A → A → Words
+lentBy read snapshots schemas schemaNames tables tableNames columns columnNames dataFiles deleteFiles positions statistics scheduled = record {
+  snapshots = read snapshots;
+  schemas = read schemas;
+  schemaNames = read schemaNames;
+  tables = read tables;
+  tableNames = read tableNames;
+  columns = read columns;
+  columnNames = read columnNames;
+  dataFiles = read dataFiles;
+  deleteFiles = read deleteFiles;
+  positions = read positions;
+  statistics = read statistics;
+  scheduled = read scheduled;
 }
+
+abbrev pub lent : List ℕ → List ℕ → List ℕ → List ℕ → List ℕ → List ℕ → List ℕ → List ℕ → List ℕ → List ℕ → List ℕ → List ℕ → Words
+lent = lentBy (λ run. run)
 
 -- Reading: the record at a place of a run, with what lies beside it
 
