@@ -14,9 +14,9 @@ edits:
 	@sh tests/edits
 
 # Proves the program `diary` and what it stands on, each crate as soon as those that it depends on are proved, saying so on the way, and runs it: document 01's three lines.
-# Minutes the first time, seconds after that. The lines of crates.txt, with a prefix, are the rules; one prover more than processors.
+# Minutes the first time, seconds after that. The lines of crates.txt, with a prefix, are the rules: of what a crate depends on the longest chain stands first, and is begun first.
 run:
-	@{ sed -E 's/[a-z_]+/crate.&/g' crates.txt; printf 'crate.%%:\n\t@sh tests/prove $$*\n'; } | $(MAKE) -s -j $$(($$(nproc) + 1)) -f - crate.diary && target/bin/diary
+	@{ sed -E 's/[a-z_]+/crate.&/g' crates.txt; printf 'crate.%%:\n\t@sh tests/prove $$*\n'; } | $(MAKE) -s -j $$(nproc) -f - crate.diary && target/bin/diary
 
 # The public calls as one archive, for include/gukoremo.h and host/gukoremo.
 library:
