@@ -51,14 +51,14 @@ unfolding orElse
 orElse-both zero rest h = (refl, h)
 orElse-both (suc n) rest h = absurd (omega arith)
 
-need-orElse : (number : ℕ) (b : Bool) (x rest : ℕ) → orElse (refuseUnless (suc number) b x) rest ≡ refuseUnless (suc number) b (orElse x rest)
+unless-orElse : (number : ℕ) (b : Bool) (x rest : ℕ) → orElse (refuseUnless (suc number) b x) rest ≡ refuseUnless (suc number) b (orElse x rest)
 unfolding orElse
-need-orElse number true x rest = refl
-need-orElse number false x rest = refl
+unless-orElse number true x rest = refl
+unless-orElse number false x rest = refl
 
 some-orElse : (number : ℕ) (b : Bool) (x rest : ℕ) → 1 ≤ number → orElse (refuseUnless number b x) rest ≡ refuseUnless number b (orElse x rest)
 some-orElse zero b x rest l = absurd (omega arith)
-some-orElse (suc number) b x rest l = need-orElse number b x rest
+some-orElse (suc number) b x rest l = unless-orElse number b x rest
 
 done : (rest : ℕ) → orElse 0 rest ≡ rest
 unfolding orElse

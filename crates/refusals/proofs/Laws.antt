@@ -37,9 +37,9 @@ pub room-as : (c r : Counts) {a added : Counts} {b : Bool} → b ≡ within (add
 room-as c r p q = rw q at p
 
 -- what comes after a test matters only where the test is passed
-pub need-same : (number : ℕ) (b : Bool) {x y : ℕ} → (b ≡ true → x ≡ y) → refuseUnless number b x ≡ refuseUnless number b y
-need-same number true e = e refl
-need-same number false e = refl
+pub unless-same : (number : ℕ) (b : Bool) {x y : ℕ} → (b ≡ true → x ≡ y) → refuseUnless number b x ≡ refuseUnless number b y
+unless-same number true e = e refl
+unless-same number false e = refl
 
 -- the number of a call without an answer on sound tables: its own tests, and room for its effect
 pub call-refusal : (w : Words) (c : Counts) (m : ℕ) (k : Call) {room : Bool} {n : ℕ} → sound w c ≡ true → answer (load w c) k ≡ [] → room ≡ hasRoom w (effect (load w c) k)

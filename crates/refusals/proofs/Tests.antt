@@ -22,7 +22,7 @@ use Rattle.call_laws.proofs.Refusals.{sound-fits, pass}
 use Rattle.refusals.specs.declared.checked.Checked.{Checked}
 use Rattle.refusals.specs.Checked.{checkedOf, unanswered}
 use Rattle.refusals.specs.Paired.{paired}
-use Rattle.refusals.proofs.Laws.{need-same, call-refusal, commit-room}
+use Rattle.refusals.proofs.Laws.{unless-same, call-refusal, commit-room}
 
 module _ (ns : List ℕ) (bs : List Bool) where
   pub firstFrom : ℕ → ℕ
@@ -60,7 +60,7 @@ numbers ts = map (λ t. t .0) ts
 
 agree-first : {bs : List Bool} {ts : List (ℕ × Bool)} → Agree bs ts → first (paired (numbers ts) bs) accepted ≡ first ts accepted
 agree-first done = refl
-agree-first (_then_ {a} {b} {bs} {number} {ts} e f) = ap (λ c. refuseUnless number c (first (paired (numbers ts) bs) accepted)) e ∙ need-same number b (λ h. agree-first (f h))
+agree-first (_then_ {a} {b} {bs} {number} {ts} e f) = ap (λ c. refuseUnless number c (first (paired (numbers ts) bs) accepted)) e ∙ unless-same number b (λ h. agree-first (f h))
 
 -- the refusals of a call behind 1: 5 to 19, then 4, and 2 by a test of room
 abbrev pub roomRefusals : Catalog → Call → Bool → List (ℕ × Bool)

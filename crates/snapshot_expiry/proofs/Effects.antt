@@ -1,6 +1,6 @@
 -- The writes of an expiry that is not refused: what they rely on holds, and what they leave is its effect, by the law of what each run keeps.
 use Prim.Native.Nat.{ℕ, _+_, _*_, _≤_}
-use mathlib.Core.Path.{refl, ap, _∙_}
+use mathlib.Core.Path.{_≡_, refl, ap, _∙_}
 use mathlib.Core.List.{List, map}
 use native.Mathlib.Omega.{arith}
 use lib.ListN.{length}
@@ -10,9 +10,9 @@ use Rattle.layout.specs.declared.outcome.Counts.{Counts}
 use Rattle.layout.specs.Fields.{snapshotSize, scheduledSize}
 use Rattle.layout.specs.Records.{scheduledLayout}
 use Rattle.layout.specs.Catalog.{scheduledRecord}
-use Rattle.layout.specs.Words.{Words, lent, load, capacity}
-use Rattle.ducklake.specs.Refusals.{badExpiryList}
-use Rattle.ducklake.specs.Calls.{expireSnapshots, callRefusals, effect}
+use Rattle.layout.specs.Words.{Words, load, store, countsOf, capacity}
+use Rattle.ducklake.specs.Refusals.{accepted, badExpiryList}
+use Rattle.ducklake.specs.Calls.{expireSnapshots, callRefusals, effect, refusal}
 use Rattle.ducklake.proofs.facts.FirstRefusals.{first-passed}
 use Rattle.ducklake.proofs.claim.Accepted.{numbered-call}
 use Rattle.call_laws.specs.Writes.{extendTable}
@@ -24,7 +24,16 @@ use Rattle.expiry.proofs.Expirable.{expirable, schema-versions, table-versions,
 use Rattle.expiry.proofs.Retained.{kept, files-scheduled}
 use Rattle.snapshot_expiry.specs.declared.definitions.DefinitionCounts.{DefinitionCounts}
 use Rattle.snapshot_expiry.specs.declared.files.FileCounts.{FileCounts}
-use Rattle.snapshot_expiry.specs.Written.{DefinitionsLent, DefinitionsLeft, FilesLent, FilesLeft, NotRefused, ExpiryWritten}
+use Rattle.snapshot_expiry.specs.Written.{DefinitionsLent, DefinitionsLeft, FilesLent, FilesLeft}
+
+-- an expiry that is not refused: its answer is empty, so that no area is too short
+abbrev pub NotRefused : Words → Counts → List ℕ → ℕ → Type 0
+NotRefused w c ids time = accepted ≡ refusal w c 0 (expireSnapshots ids time)
+
+-- its effect is stored
+pub record ExpiryWritten (w : Words) (c : Counts) (ids : List ℕ) (time : ℕ) (r : Counts) (w′ : Words) : Type 0 where
+  pub counts : r ≡ countsOf (effect (load w c) (expireSnapshots ids time))
+  pub words : w′ ≡ store w c (effect (load w c) (expireSnapshots ids time))
 
 -- the counts together
 abbrev together : ℕ → DefinitionCounts → FileCounts → Counts
@@ -66,11 +75,11 @@ module _ (w : Words) (c : Counts) (ids : List ℕ) (time : ℕ) (h : NotRefused 
       room = rw (files-scheduled w c ids time L) scheduled-room;
     }
 
-    module _ (n : ℕ) {ns′ ss′ sn′ ts′ tn′ cs′ cn′ fs′ ds′ ps′ qs′ xs′ : List ℕ} {d : DefinitionCounts} {f : FileCounts}
-        (N : Compacted (rowPieces snapshotSize) (snapshotStays (w .snapshots) ids) (c .snapshots) (w .snapshots) (snapshotSize * n) ns′)
-        (D : DefinitionsLeft (w .schemas) (w .schemaNames) (w .tables) (w .tableNames) (w .columns) (w .columnNames) c (idsIn left m) d ss′ sn′ ts′ tn′ cs′ cn′)
-        (F : FilesLeft (w .dataFiles) (w .deleteFiles) (w .positions) (w .statistics) (w .scheduled) c (idsIn left m) time f fs′ ds′ ps′ qs′ xs′) where
-      expired : Expired w c ids time (kept w c ids time L) (lent ns′ ss′ sn′ ts′ tn′ cs′ cn′ fs′ ds′ ps′ qs′ xs′) (together n d f)
+    module _ (n : ℕ) {w′ : Words} {d : DefinitionCounts} {f : FileCounts}
+        (N : Compacted (rowPieces snapshotSize) (snapshotStays (w .snapshots) ids) (c .snapshots) (w .snapshots) (snapshotSize * n) (w′ .snapshots))
+        (D : DefinitionsLeft (w .schemas) (w .schemaNames) (w .tables) (w .tableNames) (w .columns) (w .columnNames) c (idsIn left m) d (w′ .schemas) (w′ .schemaNames) (w′ .tables) (w′ .tableNames) (w′ .columns) (w′ .columnNames))
+        (F : FilesLeft (w .dataFiles) (w .deleteFiles) (w .positions) (w .statistics) (w .scheduled) c (idsIn left m) time f (w′ .dataFiles) (w′ .deleteFiles) (w′ .positions) (w′ .statistics) (w′ .scheduled)) where
+      expired : Expired w c ids time (kept w c ids time L) w′ (together n d f)
       unfolding kept
       expired = record {
         snapshots = N;
@@ -88,7 +97,7 @@ module _ (w : Words) (c : Counts) (ids : List ℕ) (time : ℕ) (h : NotRefused 
         more = F .scheduled .count ∙ ap (λ xs. c .scheduled + length xs) (files-scheduled w c ids time L);
       }
 
-      pub expiry-written : ExpiryWritten w c ids time (together n d f) (lent ns′ ss′ sn′ ts′ tn′ cs′ cn′ fs′ ds′ ps′ qs′ xs′)
+      pub expiry-written : ExpiryWritten w c ids time (together n d f) w′
       unfolding effect
       expiry-written = record {
         counts = expire-counts w c ids time (call .fits) (kept w c ids time L) expired;

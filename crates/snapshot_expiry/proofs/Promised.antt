@@ -10,7 +10,7 @@ use Rattle.ducklake.specs.Calls.{expireSnapshots, answer, refusal, placeOf, per
 use Rattle.call_laws.proofs.Promises.{outcome, promise-refused, promise-stored}
 use Rattle.refusals.specs.declared.checked.Checked.{Checked}
 use Rattle.refusals.specs.Checked.{checkedOf}
-use Rattle.snapshot_expiry.specs.Written.{NotRefused, ExpiryWritten}
+use Rattle.snapshot_expiry.proofs.Effects.{NotRefused, ExpiryWritten}
 
 module _ (w : Words) (c : Counts) (ids : List ℕ) (time : ℕ) {checked : Checked} {n : ℕ} (e : checked ≡ checkedOf w c)
     (judged : (v : Words) → v .snapshots ≡ w .snapshots → v .dataFiles ≡ w .dataFiles → v .deleteFiles ≡ w .deleteFiles → checked ≡ checkedOf v c

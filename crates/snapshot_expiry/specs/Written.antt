@@ -1,13 +1,10 @@
 -- What the functions of this crate rely on, and what they leave.
 use Prim.Native.Nat.{ℕ, _+_, _*_, _≤_}
-use mathlib.Core.Path.{_≡_}
 use mathlib.Core.List.{List}
 use lib.ListN.{length}
 use Rattle.layout.specs.declared.outcome.Counts.{Counts}
+use Rattle.layout.specs.Lent.{Run, LentRun}
 use Rattle.layout.specs.Fields.{schemaSize, schemaBeginWord, tableSize, tableBeginWord, columnSize, columnBeginWord, dataFileSize, dataFileBeginWord, deleteFileSize, deleteFileBeginWord, scheduledSize}
-use Rattle.layout.specs.Words.{Words, load, store, countsOf}
-use Rattle.ducklake.specs.Refusals.{accepted}
-use Rattle.ducklake.specs.Calls.{expireSnapshots, effect, refusal}
 use Rattle.expiry.specs.Remaining.{idsIn}
 use Rattle.expiry.specs.Removed.{removedFiles, Files, ScheduledMore}
 use Rattle.expiry.specs.Stayed.{RecordsLeft, NamedLeft, NamedVersions, Located, PositionsLeft, StatisticsOfFiles, StatisticsLeft}
@@ -41,11 +38,6 @@ pub record FilesLeft (fs ds ps qs xs : List ℕ) (c : Counts) (ids : List ℕ) (
   pub statistics : StatisticsLeft qs (c .statistics) fs (c .«data_files») ids (r .statistics) qs′
   pub scheduled : ScheduledMore (removedFiles fs (c .«data_files») ds (c .«delete_files») ids time) xs (c .scheduled) (r .scheduled) xs′
 
--- an expiry that is not refused: its answer is empty, so that no area is too short
-abbrev pub NotRefused : Words → Counts → List ℕ → ℕ → Type 0
-NotRefused w c ids time = accepted ≡ refusal w c 0 (expireSnapshots ids time)
-
--- its effect is stored
-pub record ExpiryWritten (w : Words) (c : Counts) (ids : List ℕ) (time : ℕ) (r : Counts) (w′ : Words) : Type 0 where
-  pub counts : r ≡ countsOf (effect (load w c) (expireSnapshots ids time))
-  pub words : w′ ≡ store w c (effect (load w c) (expireSnapshots ids time))
+-- an answer area that a function is not lent, as one that it leaves as it was; where it lies is nothing to a promise
+abbrev pub unlent : List ℕ → LentRun
+unlent area = let it : Run = record { ptr = (0, 0); name = 0; now = area } in record { entry = it; exit = it }

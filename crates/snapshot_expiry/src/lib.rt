@@ -3,4 +3,3 @@
 pub mod definitions;
 pub mod expire;
 pub mod files;
-pub mod write;
