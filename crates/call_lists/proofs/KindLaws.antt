@@ -1,9 +1,8 @@
 -- The call that a record stands for, by its kind; and a promise of one call is that of the same.
 use Prim.Native.Nat.{ℕ}
 use mathlib.Core.Path.{_≡_, refl, subst}
-use mathlib.Core.Bool.{true, false}
 use mathlib.Core.List.{List}
-use borrow.Author.Tests.{eqb-true, ne-eqb}
+use borrow.Author.Tests.{ne-eqb}
 use Rattle.layout.specs.declared.outcome.Counts.{Counts}
 use Rattle.layout.specs.declared.outcome.Outcome.{Outcome}
 use Rattle.layout.specs.Words.{Words}
@@ -11,7 +10,7 @@ use Rattle.ducklake.specs.Kinds.{createdSchema, createdTable, insertedIntoTable
 use Rattle.ducklake.specs.Commits.{createSchema, createTable, insert, delete, dropTable, dropSchema}
 use Rattle.ducklake.specs.Calls.{Call, commitAt, expireSnapshots, cleanUp, perform, Promise}
 use Rattle.call_lists.specs.declared.record.CallRecord.{CallRecord}
-use Rattle.call_lists.specs.Calls.{part, expiredSnapshots, isDefinition, callOf, termsOf}
+use Rattle.call_lists.specs.Calls.{part, expiredSnapshots, callOf, termsOf}
 
 module _ (w : Words) (c : Counts) (a : List ℕ) where
   pub promise-of : {k k′ : Call} {o : Outcome} {w′ : Words} {a′ : List ℕ} → k ≡ k′ → Promise (perform k w c a) o w′ a′ → Promise (perform k′ w c a) o w′ a′
@@ -31,13 +30,9 @@ module _ (words names : List ℕ) (r : CallRecord) where
   unfolding callOf
   drop-schema-is q = rw q refl
 
-  pub drop-table-is : isDefinition (r .kind) ≡ true → (r .kind ≡ createdSchema → ⊥) → (r .kind ≡ createdTable → ⊥) → (r .kind ≡ droppedSchema → ⊥)
-      → commitAt (termsOf r) (dropTable (r .object)) ≡ callOf words names r
+  pub drop-table-is : r .kind ≡ droppedTable → commitAt (termsOf r) (dropTable (r .object)) ≡ callOf words names r
   unfolding callOf
-  drop-table-is d n₁ n₂ n₃ = rw last refl
-    where
-      last : r .kind ≡ droppedTable
-      last = eqb-true (r .kind) droppedTable (rw (ne-eqb _ _ n₁, ne-eqb _ _ n₂, ne-eqb _ _ n₃) at d)
+  drop-table-is q = rw q refl
 
   pub insert-is : {statistics : List ℕ} → r .kind ≡ insertedIntoTable → statistics ≡ part words (r .words)
       → commitAt (termsOf r) (insert (r .object) (r .«record_count») (r .uuid) statistics) ≡ callOf words names r
@@ -53,7 +48,8 @@ module _ (words names : List ℕ) (r : CallRecord) where
   unfolding callOf
   expire-is q e = rw (q, e) refl
 
-  pub cleanup-is : isDefinition (r .kind) ≡ false → (r .kind ≡ insertedIntoTable → ⊥) → (r .kind ≡ deletedFromTable → ⊥) → (r .kind ≡ expiredSnapshots → ⊥)
-      → cleanUp (r .time) ≡ callOf words names r
+  -- a record of no other kind
+  pub cleanup-is : (r .kind ≡ createdSchema → ⊥) → (r .kind ≡ createdTable → ⊥) → (r .kind ≡ droppedSchema → ⊥) → (r .kind ≡ droppedTable → ⊥)
+      → (r .kind ≡ insertedIntoTable → ⊥) → (r .kind ≡ deletedFromTable → ⊥) → (r .kind ≡ expiredSnapshots → ⊥) → cleanUp (r .time) ≡ callOf words names r
   unfolding callOf
-  cleanup-is d n₁ n₂ n₃ = rw (d, ne-eqb _ _ n₁, ne-eqb _ _ n₂, ne-eqb _ _ n₃) refl
+  cleanup-is n₁ n₂ n₃ n₄ n₅ n₆ n₇ = rw (ne-eqb _ _ n₁, ne-eqb _ _ n₂, ne-eqb _ _ n₃, ne-eqb _ _ n₄, ne-eqb _ _ n₅, ne-eqb _ _ n₆, ne-eqb _ _ n₇) refl

@@ -108,6 +108,11 @@ rest-is a k h = take-all (length a - k) (drop k a) (omega (arith, length-drop k 
 put-back : (a : List ℕ) (k : ℕ) (b : List ℕ) → k ≤ length a → putMid k (length a - k) a b ≡ take k a ++ b
 put-back a k b h = ap (λ (xs : List ℕ). take k a ++ (b ++ xs)) (post-is k (length a) a h ∙ drop-length a) ∙ ap (λ (xs : List ℕ). take k a ++ xs) (append-nil b)
 
+-- an answer that a call gives behind k words of an area has room there
+pub answer-fits : (x : Call) (w : Words) (c : Counts) (a : List ℕ) (k : ℕ) {o : Outcome} {w′ : Words} {b : List ℕ} → k ≤ length a
+    → Promise (perform x w c (take (length a - k) (drop k a))) o w′ b → k + o .length ≤ length a
+answer-fits x w c a k h p = omega (arith, perform-length x w c (take (length a - k) (drop k a)), p .length, ap length (rest-is a k h), length-drop k a)
+
 promise-same : {r r′ : Result} {o : Outcome} {w : Words} {a : List ℕ} → r ≡ r′ → Promise r o w a → Promise r′ o w a
 promise-same {o} {w} {a} q p = subst (λ (x : Result). Promise x o w a) q p
 
@@ -157,14 +162,13 @@ module _ (calls lists names : List ℕ) (w : Words) (c : Counts) (a t : List ℕ
       let p′ = promise-same (on-played (played calls lists names w c a i) x (P .words) (P .counts) (P .area) (P .answered) (P .room)) p in
       let q : suc i ≡ i + 1 = omega arith in
       let n = same-len-mid k (length a₁ - k) a₁ b l in
-      let m = perform-length x w₁ c₁ (take (length a₁ - k) (drop k a₁)) in
       subst (λ (j : ℕ). Playing j w₂ (o .counts) (putMid k (length a₁ - k) a₁ b) (k + o .length) t₂) q
       (record {
         words = p′ .words;
         counts = p′ .counts;
         area = put-back a₁ k b (P .room) ∙ ap₂ _++_ (ap₂ take (P .answered) (P .area)) (p′ .area);
         answered = ap₂ _+_ (P .answered) (p′ .length);
-        room = omega (arith, n, m, p .length, ap length (rest-is a₁ k (P .room)), length-drop k a₁, P .room);
+        room = omega (arith, n, answer-fits x w₁ c₁ a₁ k (P .room) p);
         told = λ j g. subst (λ (v : List ℕ). Tells (result calls lists names w c a j) v (toldSize * j)) (sym e)
             (tells-more (result calls lists names w c a) i t₁ o h (P .told) p′ j (omega (arith, g)));
         untold = ap (drop (toldSize * suc i)) e ∙ untold-more i t t₁ o h (P .untold);

@@ -1,3 +1,2 @@
 // Plays lists of calls.
-pub mod call;
 pub mod session;

@@ -4,7 +4,7 @@ ghost use lib.ListN.{length};
 ghost use Rattle.layout.specs.Lent.{atEntry, atExit};
 ghost use Rattle.call_lists.specs.Records.{callSize};
 ghost use Rattle.call_lists.specs.Playing.{toldSize, callsPlayed, SessionPromise};
-use crate::call::play_call;
+use call_dispatch::play::play;
 use call_lists::outcome::Session;
 use call_lists::outcome::TOLD_SIZE;
 use call_lists::outcome::write_outcome;
@@ -13,6 +13,7 @@ use call_lists::record::call_at;
 use call_lists::record::count_calls;
 use layout::outcome::Counts;
 use refusals::room::smaller;
+use soundness::checked::check;
 
 // How many calls are played.
 fn calls_played(calls: &[u64], told: &[u64]) -> usize
@@ -24,7 +25,7 @@ fn calls_played(calls: &[u64], told: &[u64]) -> usize
 }
 
 // Plays a list of calls, each on what the one before left and with what is left of the answer area, and tells of each its outcome: up to a record that is
-// no call's, as many as can be told.
+// no call's, as many as can be told. A call is the check of the tables, then the operation.
 #[no_mangle]
 pub extern "C" fn catalog_play(
     snapshots: &mut [u64],
@@ -58,7 +59,23 @@ pub extern "C" fn catalog_play(
     let mut i: usize = 0;
     while i < n {
         let call = call_at(calls, i);
-        let outcome = play_call(
+        let checked = check(
+            snapshots,
+            schemas,
+            schema_names,
+            tables,
+            table_names,
+            columns,
+            column_names,
+            data_files,
+            delete_files,
+            positions,
+            statistics,
+            scheduled,
+            held,
+        );
+        let outcome = play(
+            checked,
             snapshots,
             schemas,
             schema_names,

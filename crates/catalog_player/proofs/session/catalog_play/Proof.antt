@@ -1,118 +1,119 @@
--- Each call is played on what the one before left, and told behind it.
+-- `catalog_play` meets its contract: each call is played on what the one before left, and told behind it.
 use borrow.Author.Needs.{needs}
-use Prim.Native.Nat.{_≤_, _-_, _*_}
-use mathlib.Core.Path.{_≡_, refl, ap, _∙_}
+use Prim.Native.Nat.{_-_}
 use native.Mathlib.Omega.{arith}
-use lib.ListN.{length, take, drop}
-use borrow.Rule.Slice.PartMut.{same-len-mid}
 use Rattle.layout.specs.Words.{lent}
-use Rattle.call_lists.specs.Calls.{callOf}
-use Rattle.call_lists.proofs.KindLaws.{promise-of}
-use Rattle.call_lists.proofs.Sessions.{Playing, playing-start, playing-next, session-whole}
-use Rattle.catalog_player.proofs.Lengths.{SameLengths, same-lengths, and-then}
+use Rattle.call_lists.proofs.Sessions.{answer-fits, session-whole}
+use Rattle.catalog_player.proofs.Held.{Held, held-start, held-next, lengths-kept, as-long}
 use Rattle.catalog_player.proofs.session.catalog_play.Statement.{statement}
 use Rattle.catalog_player.proofs.session.catalog_play.Tie as tie
 
 abbrev Inv-loop : tie.InvT-loop
 Inv-loop s₀ sc₀ scn₀ t₀ tn₀ co₀ con₀ d₀ de₀ p₀ st₀ sd₀ calls lists names area₀ told₀ n held₀ answered₀ i₀ s sc scn t tn co con d de p st sd area told held answered i =
-    (i ≤ n) × (length area ≡ length area₀) × (length told ≡ length told₀) × SameLengths (lent s₀ sc₀ scn₀ t₀ tn₀ co₀ con₀ d₀ de₀ p₀ st₀ sd₀) (lent s sc scn t tn co con d de p st sd)
-    × Playing calls lists names (lent s₀ sc₀ scn₀ t₀ tn₀ co₀ con₀ d₀ de₀ p₀ st₀ sd₀) held₀ area₀ told₀ i (lent s sc scn t tn co con d de p st sd) held area answered told
+    Held calls lists names (lent s₀ sc₀ scn₀ t₀ tn₀ co₀ con₀ d₀ de₀ p₀ st₀ sd₀) held₀ area₀ told₀ n i (lent s sc scn t tn co con d de p st sd) held area answered told
 
 abbrev μ-loop : tie.MeasureT-loop
 μ-loop s₀ sc₀ scn₀ t₀ tn₀ co₀ con₀ d₀ de₀ p₀ st₀ sd₀ calls lists names area₀ told₀ n held₀ answered₀ i₀ s sc scn t tn co con d de p st sd area told held answered i = n - i
 
+-- places further back than a search goes: the start, and behind each call of the loop the one before
+abbrev begun : tie.After-calls-played Inv-loop μ-loop → tie.Start Inv-loop μ-loop
+begun c = search
+
+abbrev called : tie.After-check Inv-loop μ-loop → tie.After-call-at Inv-loop μ-loop
+called c = search
+
+abbrev checked : tie.After-play Inv-loop μ-loop → tie.After-check Inv-loop μ-loop
+checked c = search
+
+abbrev played : tie.After-write-outcome Inv-loop μ-loop → tie.After-play Inv-loop μ-loop
+played c = search
+
 loop-holds : tie.Need-loop-holds Inv-loop μ-loop
-loop-holds c =
-    let a = c .before .before .before .before .before .before .before .before .before .before .before .before .before .before .before .before .before .before .before .args in
-    (omega arith, refl, refl, same-lengths (lent (a .snapshots .now) (a .schemas .now) (a .schema-names .now) (a .tables .now) (a .table-names .now) (a .columns .now) (a .column-names .now) (a .data-files .now) (a .delete-files .now) (a .positions .now) (a .statistics .now) (a .scheduled .now)), playing-start (a .calls .now) (a .lists .now) (a .names .now) (lent (a .snapshots .now) (a .schemas .now) (a .schema-names .now) (a .tables .now) (a .table-names .now) (a .columns .now) (a .column-names .now) (a .data-files .now) (a .delete-files .now) (a .positions .now) (a .statistics .now) (a .scheduled .now)) (a .counts) (a .area .now) (a .told .now))
+loop-holds c = held-start _ _ _ _ _ _ _ _
 
 call-at-requires : tie.Need-call-at-requires Inv-loop μ-loop
-call-at-requires c κs = omega (arith, c .before .before .calls-played .ensures .1, c .loop-test .taken)
+call-at-requires c κs =
+    let counted : tie.After-calls-played Inv-loop μ-loop = search in
+    omega (arith, counted .calls-played .ensures .1, c .loop-test .taken)
 
-mul-play-call : tie.Need-mul-play-call Inv-loop μ-loop
-mul-play-call c = let h = c .before .before .before .before .before .before .before .before .before .before .before .before .before .before .loop in omega (arith, h .inv .1, h .inv .4 .room, c .before .before .before .before .before .before .before .before .before .before .before .before .before .before .before .before .before .before .before .before .before .before .before .before .before .before .before .before .before .before .before .before .before .before .good .1 .1 .1 .1 .1 .1 .1 .1 .1 .1 .1 .1 .1 .1 .1 .1 .0)
+-- the answers so far are words of the area
+room : tie.Need-sub-play Inv-loop μ-loop
+room c =
+    let check : tie.After-check Inv-loop μ-loop = search in
+    let call : tie.After-call-at Inv-loop μ-loop = called check in
+    let head : tie.At-loop Inv-loop μ-loop = search in
+    head .loop .inv .playing .room
 
-sub-play-call : tie.Need-sub-play-call Inv-loop μ-loop
-sub-play-call c = c .before .before .before .before .before .before .before .before .before .before .before .before .before .before .loop .inv .4 .room
+mul-play : tie.Need-mul-play Inv-loop μ-loop
+mul-play c =
+    let check : tie.After-check Inv-loop μ-loop = search in
+    let call : tie.After-call-at Inv-loop μ-loop = called check in
+    let head : tie.At-loop Inv-loop μ-loop = search in
+    let counted : tie.After-calls-played Inv-loop μ-loop = search in
+    omega (arith, head .loop .inv .area, head .loop .inv .playing .room, begun counted .good)
 
-part-play-call-start : tie.Need-part-play-call-start Inv-loop μ-loop
-part-play-call-start c = c .before .before .before .before .before .before .before .before .before .before .before .before .before .before .loop .inv .4 .room
-
-part-play-call-end : tie.Need-part-play-call-end Inv-loop μ-loop
-part-play-call-end c = omega arith
-
-play-call-requires : tie.Need-play-call-requires Inv-loop μ-loop
-play-call-requires c κs = search needs
+play-requires : tie.Need-play-requires Inv-loop μ-loop
+play-requires c κs =
+    let check : tie.After-check Inv-loop μ-loop = search in
+    check .check .ensures
 
 write-outcome-requires : tie.Need-write-outcome-requires Inv-loop μ-loop
-write-outcome-requires c κs = omega (arith, c .before .before .before .before .before .before .before .before .before .before .before .before .before .before .before .before .before .before .before .before .before .before .before .before .before .before .before .before .before .before .before .before .before .before .before .before .before .before .before .before .before .before .before .loop .inv .2, c .before .before .before .before .before .before .before .before .before .before .before .before .before .before .before .before .before .before .before .before .before .before .before .before .before .before .before .before .before .before .before .before .before .before .before .before .before .before .before .before .before .before .before .before .calls-played .ensures .2, c .before .before .before .before .before .before .before .before .before .before .before .before .before .before .before .before .before .before .before .before .before .before .before .before .before .before .before .before .before .before .before .before .before .before .before .before .before .before .before .before .before .before .loop-test .taken)
+write-outcome-requires c κs =
+    let play : tie.After-play Inv-loop μ-loop = search in
+    let call : tie.After-call-at Inv-loop μ-loop = called (checked play) in
+    let in-loop : tie.In-loop Inv-loop μ-loop = search in
+    let counted : tie.After-calls-played Inv-loop μ-loop = search in
+    omega (arith, in-loop .before .loop .inv .told, counted .calls-played .ensures .2, in-loop .loop-test .taken)
 
 add-answered : tie.Need-add-answered Inv-loop μ-loop
 add-answered c =
-    let a = c .before .before .before .before .before .before .before .before .before .before .before .before .before .before .before .before .before .before .before .before .before .before .before .before .before .before .before .before .before .before .before .before .before .before .before .before .before .before .before .before .before .before .before .before .before .before .before .before .before .before .before .before .before .before .before .before .before .before .before .before .before .before .before .before .before .before .before .before .args in
-    let h = c .before .before .before .before .before .before .before .before .before .before .before .before .before .before .before .before .before .before .before .before .before .before .before .before .before .before .before .before .before .before .before .before .before .before .before .before .before .before .before .before .before .before .before .before .before .before .before .before .loop in
-    let d = c .before .before .before .before .before .before .before .before .before .before .before .before .before .before .before .before .before .before .before .before .before .before .before .before .before .before .before .before .before .before .before .before in
-    let l = same-len-mid (h .answered) (length (h .area) - h .answered) (h .area) (d .play-call .last .1 .1 .1 .1 .1 .1 .1 .1 .1 .1 .1 .1 .1 .1 .1 .1 .0) (d .play-call .kept .1 .1 .1 .1 .1 .1 .1 .1 .1 .1 .1 .1 .1 .1 .1 .1 .0) in
-    let n = playing-next (a .calls .now) (a .lists .now) (a .names .now) (lent (a .snapshots .now) (a .schemas .now) (a .schema-names .now) (a .tables .now) (a .table-names .now) (a .columns .now) (a .column-names .now) (a .data-files .now) (a .delete-files .now) (a .positions .now) (a .statistics .now) (a .scheduled .now)) (a .counts) (a .area .now) (a .told .now) (h .i) (h .inv .4)
-    (omega (arith, h .inv .2, c .before .before .before .before .before .before .before .before .before .before .before .before .before .before .before .before .before .before .before .before .before .before .before .before .before .before .before .before .before .before .before .before .before .before .before .before .before .before .before .before .before .before .before .before .before .before .before .before .before .calls-played .ensures .2, c .before .before .before .before .before .before .before .before .before .before .before .before .before .before .before .before .before .before .before .before .before .before .before .before .before .before .before .before .before .before .before .before .before .before .before .before .before .before .before .before .before .before .before .before .before .before .before .loop-test .taken))
-    (promise-of (lent (h .snapshots) (h .schemas) (h .schema-names) (h .tables) (h .table-names) (h .columns) (h .column-names) (h .data-files) (h .delete-files) (h .positions) (h .statistics) (h .scheduled)) (h .held) (take (length (h .area) - h .answered) (drop (h .answered) (h .area)))
-    (ap (callOf (a .lists .now) (a .names .now)) (c .before .before .before .before .before .before .before .before .before .before .before .before .before .before .before .before .before .before .before .before .before .before .before .before .before .before .before .before .before .before .before .before .before .before .before .before .before .before .before .before .before .before .before .before .before .before .call-at .ensures)) (d .play-call .ensures))
-    (d .play-call .kept .1 .1 .1 .1 .1 .1 .1 .1 .1 .1 .1 .1 .1 .1 .1 .1 .0) (c .before .before .before .before .write-outcome .ensures) in
-    omega (arith, n .room, l, h .inv .1, c .before .before .before .before .before .before .before .before .before .before .before .before .before .before .before .before .before .before .before .before .before .before .before .before .before .before .before .before .before .before .before .before .before .before .before .before .before .before .before .before .before .before .before .before .before .before .before .before .before .before .before .before .before .before .before .before .before .before .before .before .before .before .before .before .before .before .before .before .good .1 .1 .1 .1 .1 .1 .1 .1 .1 .1 .1 .1 .1 .1 .1 .1 .0)
+    let told : tie.After-write-outcome Inv-loop μ-loop = search in
+    let play : tie.After-play Inv-loop μ-loop = played told in
+    let call : tie.After-call-at Inv-loop μ-loop = called (checked play) in
+    let head : tie.At-loop Inv-loop μ-loop = search in
+    let counted : tie.After-calls-played Inv-loop μ-loop = search in
+    omega (arith, answer-fits _ _ _ (head .loop .area) (head .loop .answered) (head .loop .inv .playing .room) (play .play .ensures), head .loop .inv .area, begun counted .good)
 
 add-i : tie.Need-add-i Inv-loop μ-loop
-add-i c = omega (arith, c .before .before .before .before .before .before .before .before .before .before .before .before .before .before .before .before .before .before .before .before .before .before .before .before .before .before .before .before .before .before .before .before .before .before .before .before .before .before .before .before .before .before .before .before .before .before .before .loop-test .taken, c .before .before .before .before .before .before .before .before .before .before .before .before .before .before .before .before .before .before .before .before .before .before .before .before .before .before .before .before .before .before .before .before .before .before .before .before .before .before .before .before .before .before .before .before .before .before .before .before .before .calls-played .ensures .1, c .before .before .before .before .before .before .before .before .before .before .before .before .before .before .before .before .before .before .before .before .before .before .before .before .before .before .before .before .before .before .before .before .before .before .before .before .before .before .before .before .before .before .before .before .before .before .before .before .before .before .before .before .before .before .before .before .before .before .before .before .before .before .before .before .before .before .before .before .good .1 .1 .1 .1 .1 .1 .1 .1 .1 .1 .1 .1 .1 .0)
+add-i c =
+    let told : tie.After-write-outcome Inv-loop μ-loop = search in
+    let call : tie.After-call-at Inv-loop μ-loop = called (checked (played told)) in
+    let in-loop : tie.In-loop Inv-loop μ-loop = search in
+    let counted : tie.After-calls-played Inv-loop μ-loop = search in
+    omega (arith, in-loop .loop-test .taken, counted .calls-played .ensures .1, begun counted .good)
 
 loop-less : tie.Need-loop-less Inv-loop μ-loop
-loop-less c = omega (arith, c .before .before .before .before .before .before .before .before .before .before .before .before .before .before .before .before .before .before .before .before .before .before .before .before .before .before .before .before .before .before .before .before .before .before .before .before .before .before .before .before .before .before .before .before .before .before .before .loop-test .taken)
+loop-less c =
+    let told : tie.After-write-outcome Inv-loop μ-loop = search in
+    let call : tie.After-call-at Inv-loop μ-loop = called (checked (played told)) in
+    let in-loop : tie.In-loop Inv-loop μ-loop = search in
+    omega (arith, in-loop .loop-test .taken)
 
 loop-again : tie.Need-loop-again Inv-loop μ-loop
 loop-again c =
-    let a = c .before .before .before .before .before .before .before .before .before .before .before .before .before .before .before .before .before .before .before .before .before .before .before .before .before .before .before .before .before .before .before .before .before .before .before .before .before .before .before .before .before .before .before .before .before .before .before .before .before .before .before .before .before .before .before .before .before .before .before .before .before .before .before .before .before .before .before .before .args in
-    let h = c .before .before .before .before .before .before .before .before .before .before .before .before .before .before .before .before .before .before .before .before .before .before .before .before .before .before .before .before .before .before .before .before .before .before .before .before .before .before .before .before .before .before .before .before .before .before .before .before .loop in
-    let d = c .before .before .before .before .before .before .before .before .before .before .before .before .before .before .before .before .before .before .before .before .before .before .before .before .before .before .before .before .before .before .before .before in
-    let l = same-len-mid (h .answered) (length (h .area) - h .answered) (h .area) (d .play-call .last .1 .1 .1 .1 .1 .1 .1 .1 .1 .1 .1 .1 .1 .1 .1 .1 .0) (d .play-call .kept .1 .1 .1 .1 .1 .1 .1 .1 .1 .1 .1 .1 .1 .1 .1 .1 .0) in
-    let n = playing-next (a .calls .now) (a .lists .now) (a .names .now) (lent (a .snapshots .now) (a .schemas .now) (a .schema-names .now) (a .tables .now) (a .table-names .now) (a .columns .now) (a .column-names .now) (a .data-files .now) (a .delete-files .now) (a .positions .now) (a .statistics .now) (a .scheduled .now)) (a .counts) (a .area .now) (a .told .now) (h .i) (h .inv .4)
-    (omega (arith, h .inv .2, c .before .before .before .before .before .before .before .before .before .before .before .before .before .before .before .before .before .before .before .before .before .before .before .before .before .before .before .before .before .before .before .before .before .before .before .before .before .before .before .before .before .before .before .before .before .before .before .before .before .calls-played .ensures .2, c .before .before .before .before .before .before .before .before .before .before .before .before .before .before .before .before .before .before .before .before .before .before .before .before .before .before .before .before .before .before .before .before .before .before .before .before .before .before .before .before .before .before .before .before .before .before .before .loop-test .taken))
-    (promise-of (lent (h .snapshots) (h .schemas) (h .schema-names) (h .tables) (h .table-names) (h .columns) (h .column-names) (h .data-files) (h .delete-files) (h .positions) (h .statistics) (h .scheduled)) (h .held) (take (length (h .area) - h .answered) (drop (h .answered) (h .area)))
-    (ap (callOf (a .lists .now) (a .names .now)) (c .before .before .before .before .before .before .before .before .before .before .before .before .before .before .before .before .before .before .before .before .before .before .before .before .before .before .before .before .before .before .before .before .before .before .before .before .before .before .before .before .before .before .before .before .before .before .call-at .ensures)) (d .play-call .ensures))
-    (d .play-call .kept .1 .1 .1 .1 .1 .1 .1 .1 .1 .1 .1 .1 .1 .1 .1 .1 .0) (c .before .before .before .before .write-outcome .ensures) in (
-      omega (arith, c .before .before .before .before .before .before .before .before .before .before .before .before .before .before .before .before .before .before .before .before .before .before .before .before .before .before .before .before .before .before .before .before .before .before .before .before .before .before .before .before .before .before .before .before .before .before .before .loop-test .taken),
-      l ∙ h .inv .1,
-      c .before .before .before .before .write-outcome .kept .0 ∙ h .inv .2,
-      and-then (h .inv .3) (record {
-        snapshots = d .play-call .kept .0;
-        schemas = d .play-call .kept .1 .0;
-        schemaNames = d .play-call .kept .1 .1 .0;
-        tables = d .play-call .kept .1 .1 .1 .0;
-        tableNames = d .play-call .kept .1 .1 .1 .1 .0;
-        columns = d .play-call .kept .1 .1 .1 .1 .1 .0;
-        columnNames = d .play-call .kept .1 .1 .1 .1 .1 .1 .0;
-        dataFiles = d .play-call .kept .1 .1 .1 .1 .1 .1 .1 .0;
-        deleteFiles = d .play-call .kept .1 .1 .1 .1 .1 .1 .1 .1 .0;
-        positions = d .play-call .kept .1 .1 .1 .1 .1 .1 .1 .1 .1 .0;
-        statistics = d .play-call .kept .1 .1 .1 .1 .1 .1 .1 .1 .1 .1 .0;
-        scheduled = d .play-call .kept .1 .1 .1 .1 .1 .1 .1 .1 .1 .1 .1 .0;
-      }),
-      n,
-    )
+    let told : tie.After-write-outcome Inv-loop μ-loop = search in
+    let play : tie.After-play Inv-loop μ-loop = played told in
+    let call : tie.After-call-at Inv-loop μ-loop = called (checked play) in
+    let in-loop : tie.In-loop Inv-loop μ-loop = search in
+    let counted : tie.After-calls-played Inv-loop μ-loop = search in
+    held-next _ _ _ _ _ _ _ (in-loop .before .loop .inv) (in-loop .loop-test .taken) (counted .calls-played .ensures .2) (call .call-at .ensures) (play .play .ensures)
+    (lengths-kept _ _ _ (play .play .kept .1)) (play .play .kept .1 .1 .1 .1 .1 .1 .1 .1 .1 .1 .1 .1 .1 .1 .1 .1 .1 .0) (told .write-outcome .ensures) (told .write-outcome .kept .0)
 
 returns : tie.Need-returns Inv-loop μ-loop
 returns c =
-    let a = c .before .before .before .before .before .before .before .before .before .before .before .before .before .before .before .before .before .before .before .before .before .args in
-    let h = c .before .loop in
-    session-whole (a .calls .now) (a .lists .now) (a .names .now) (lent (a .snapshots .now) (a .schemas .now) (a .schema-names .now) (a .tables .now) (a .table-names .now) (a .columns .now) (a .column-names .now) (a .data-files .now) (a .delete-files .now) (a .positions .now) (a .statistics .now) (a .scheduled .now)) (a .counts) (a .area .now) (a .told .now)
-    (c .before .before .calls-played .ensures .0) (h .inv .0) (c .loop-test .left) (h .inv .4)
+    let head : tie.At-loop Inv-loop μ-loop = search in
+    let counted : tie.After-calls-played Inv-loop μ-loop = search in
+    session-whole _ _ _ _ _ _ _ (counted .calls-played .ensures .0) (head .loop .inv .some) (c .loop-test .left) (head .loop .inv .playing)
 
 pub catalog-play-spec : {M : Type 1} → statement M
 catalog-play-spec =
     tie.close
     (tie.spec Inv-loop μ-loop
-    (λ c κs. search needs) loop-holds call-at-requires mul-play-call sub-play-call part-play-call-start part-play-call-end play-call-requires
-    write-outcome-requires add-answered add-i loop-less loop-again
-    (λ c. c .before .loop .inv .3 .snapshots) (λ c. c .before .loop .inv .3 .schemas) (λ c. c .before .loop .inv .3 .schemaNames)
-    (λ c. c .before .loop .inv .3 .tables) (λ c. c .before .loop .inv .3 .tableNames) (λ c. c .before .loop .inv .3 .columns)
-    (λ c. c .before .loop .inv .3 .columnNames)
-    (λ c. c .before .loop .inv .3 .dataFiles) (λ c. c .before .loop .inv .3 .deleteFiles) (λ c. c .before .loop .inv .3 .positions)
-    (λ c. c .before .loop .inv .3 .statistics) (λ c. c .before .loop .inv .3 .scheduled) (λ c. c .before .loop .inv .1) (λ c. c .before .loop .inv .2)
+    (λ c κs. search needs) loop-holds call-at-requires (λ c κs. search needs) mul-play room room (λ c. omega arith) play-requires write-outcome-requires
+    add-answered add-i loop-less loop-again
+    (λ c. as-long 0 (c .before .loop .inv .runs)) (λ c. as-long 1 (c .before .loop .inv .runs)) (λ c. as-long 2 (c .before .loop .inv .runs))
+    (λ c. as-long 3 (c .before .loop .inv .runs)) (λ c. as-long 4 (c .before .loop .inv .runs)) (λ c. as-long 5 (c .before .loop .inv .runs))
+    (λ c. as-long 6 (c .before .loop .inv .runs)) (λ c. as-long 7 (c .before .loop .inv .runs)) (λ c. as-long 8 (c .before .loop .inv .runs))
+    (λ c. as-long 9 (c .before .loop .inv .runs)) (λ c. as-long 10 (c .before .loop .inv .runs)) (λ c. as-long 11 (c .before .loop .inv .runs))
+    (λ c. c .before .loop .inv .area) (λ c. c .before .loop .inv .told)
     returns)
