@@ -8,7 +8,8 @@ use lib.Dec.{ltb}
 use lib.ListN.{length}
 use Rattle.lists.specs.Lists.{chained, firstNext}
 use Rattle.lists.specs.Runs.{field, fields, overwrite}
-use Rattle.lists.proofs.Merges.{laying, laying-one, laying-room, laying-done, merged, merged-start, merged-first, merged-second, merged-skip-first, merged-skip-second, merged-end, first-next, second-next}
+use Rattle.lists.proofs.Merges.{merged, merged-start, merged-first, merged-second, merged-skip-first, merged-skip-second, merged-end, first-next, second-next}
+use Rattle.lists.proofs.Writes.{laying, laying-one, laying-room, laying-done}
 use Rattle.lists.proofs.Search.{ascending-weakly, never-falling}
 use Rattle.lists.proofs.Selections.{flatMap-map}
 use Rattle.layout.specs.Fields.{dataFileSize, dataFileIdWord, dataFileBeginWord, deleteFileSize, deleteFileIdWord, deleteFileBeginWord, scheduledSize}

@@ -1,16 +1,17 @@
--- Loops that write: elements' words into an area one after another, and words moved down a run. What each comes to from the present turn on.
+-- Loops that write: elements' words into an area one after another, words moved down a run, records behind those in use. What each comes to from the present turn on.
 use Prim.Native.Nat.{ℕ, suc, _+_, _*_, _-_, _≤_, _<_}
 use mathlib.Core.Path.{_≡_, refl, sym, ap, ap₂, _∙_}
 use mathlib.Core.Bool.{Bool, true, false}
 use mathlib.Core.List.{List, [], _∷_, _++_, map, flatMap}
 use native.Mathlib.Omega.{arith}
-use native.Mathlib.Nat.{add-zero, zero-add, add-assoc}
+use native.Mathlib.Nat.{add-zero, zero-add, add-assoc, mul-suc}
+use native.Mathlib.Numerals.{add-one}
 use lib.ListN.{length, getD, take, drop, set, length-append}
 use lib.Seq.{drop-cons, drop-set-lt}
 use Rattle.lists.specs.Lists.{range, filter}
 use Rattle.lists.specs.Runs.{from, overwrite}
 use Rattle.lists.proofs.Runs.{overwrite-none, overwrite-set, overwrite-over}
-use Rattle.lists.proofs.Loops.{from-all, filter-pass, filter-fail, filter-end}
+use Rattle.lists.proofs.Loops.{from-step, from-all, filter-pass, filter-fail, filter-end}
 
 -- words of one size for each element
 pub flatMap-size : {A : Type 0} (g : A → List ℕ) (size : ℕ) → ((x : A) → length (g x) ≡ size) → (xs : List A) → length (flatMap g xs) ≡ size * length xs
@@ -99,3 +100,39 @@ module _ (to at n : ℕ) where
   pub moved-end : (w : List ℕ) (b : ℕ) → n ≤ b → moved w b ≡ w
   unfolding moved
   moved-end w b h = let none : n - b ≡ 0 = omega arith in rw none (overwrite-none w (to + b))
+
+-- records laid one after another behind the k records of a run: the run and the records in it once xs are laid
+module _ {A : Type 0} (words : A → List ℕ) (size : ℕ) where
+  pub laying : List A → List ℕ → ℕ → List ℕ × ℕ
+  unfolding flatMap
+  laying xs u k = (overwrite u (size * k) (flatMap words xs), k + length xs)
+
+  pub laying-one : {x : A} {xs ys : List A} (u v : List ℕ) (k : ℕ) → xs ≡ x ∷ ys → length (words x) ≡ size → size * k ≤ length u → v ≡ overwrite u (size * k) (words x)
+      → laying xs u k ≡ laying ys v (k + 1)
+  unfolding laying flatMap
+  laying-one {x} {xs} {ys} u v k e l h s =
+      let a : size * (k + 1) ≡ size * k + length (words x) = rw (add-one, mul-suc, l) refl in
+      let b : k + suc (length ys) ≡ k + 1 + length ys = omega arith in
+      rw (e, s, a, ← b, overwrite-over u (size * k) (words x) (flatMap words ys) h) refl
+
+  pub laying-end : {xs : List A} (u : List ℕ) (k : ℕ) → xs ≡ [] → laying xs u k ≡ (u, k)
+  unfolding laying flatMap
+  laying-end u k e = rw (e, overwrite-none, add-zero) refl
+
+  -- where the whole has room, so has the next
+  pub laying-room : {x : A} {xs ys : List A} (zs : List A) (u₀ u : List ℕ) (k₀ k : ℕ) → laying zs u₀ k₀ ≡ laying xs u k → xs ≡ x ∷ ys → k < k₀ + length zs
+  unfolding laying
+  laying-room zs u₀ u k₀ k s e = omega (arith, ap (λ t. t .1) s, ap length e)
+
+  pub laying-done : (zs : List A) {xs : List A} (u₀ u : List ℕ) (k₀ k : ℕ) → laying zs u₀ k₀ ≡ laying xs u k → xs ≡ [] → (k ≡ k₀ + length zs) × (u ≡ overwrite u₀ (size * k₀) (flatMap words zs))
+  unfolding laying
+  laying-done zs u₀ u k₀ k s e = let t = s ∙ laying-end u k e in (sym (ap (λ x. x .1) t), sym (ap (λ x. x .0) t))
+
+  -- those that f gives at each place below m, by a loop: from the place i on
+  module _ (f : ℕ → A) (m n : ℕ) where
+    pub laying-start : (u : List ℕ) → laying (map f (range 0 m)) u n ≡ laying (from f 0 m) u (n + 0)
+    laying-start u = rw (add-zero, from-all f m) refl
+
+    pub laying-next : (u v : List ℕ) (i : ℕ) → i < m → length (words (f i)) ≡ size → size * (n + i) ≤ length u → v ≡ overwrite u (size * (n + i)) (words (f i))
+        → laying (from f i m) u (n + i) ≡ laying (from f (i + 1) m) v (n + (i + 1))
+    laying-next u v i h l r e = laying-one u v (n + i) (from-step f i m h) l r e ∙ ap (laying (from f (i + 1) m) v) (omega arith)

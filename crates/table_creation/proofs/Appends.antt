@@ -1,17 +1,10 @@
--- Records behind those in use, one after another: what the run comes to from the present turn on; and the records of new columns.
-use Prim.Native.Nat.{ℕ, zero, suc, _+_, _*_, _≤_, _<_}
+-- The records and names of new columns, behind those in use.
+use Prim.Native.Nat.{ℕ, zero, suc, _*_}
 use mathlib.Core.Path.{_≡_, refl, sym, ap, _∙_}
 use mathlib.Core.Bool.{true}
-use mathlib.Core.List.{List, _∷_, map, flatMap}
-use native.Mathlib.Omega.{arith}
-use native.Mathlib.Nat.{add-zero, add-suc, mul-suc, mul-le-mul-left}
-use native.Mathlib.Numerals.{add-one}
-use lib.ListN.{length}
+use mathlib.Core.List.{List, _∷_, map}
 use Rattle.lists.specs.Lists.{range}
-use Rattle.lists.specs.Runs.{from, overwrite, Layout}
-use Rattle.lists.proofs.Layouts.{Lawful}
-use Rattle.lists.proofs.Loops.{from-step, from-end, from-all}
-use Rattle.lists.proofs.Runs.{overwrite-none, overwrite-over}
+use Rattle.lists.specs.Runs.{overwrite}
 use Rattle.layout.specs.Catalog.{columnRecord}
 use Rattle.layout.specs.Names.{nameSize}
 use Rattle.layout.specs.Records.{columnLayout}
@@ -21,25 +14,6 @@ use Rattle.call_laws.specs.Writes.{extendTable}
 use Rattle.call_laws.proofs.CommitWords.{column-names}
 use Rattle.table_creation.specs.Appended.{ColumnsAppended}
 use Rattle.table_creation.specs.Columns.{newColumnRecord}
-
--- a loop that writes the records that f gives at each place below k behind the first n: what the run comes to from the place i on
-module _ {A : Type 0} (L : Layout A) (F : Lawful L) (f : ℕ → A) (n k : ℕ) where
-  pub extended : List ℕ → ℕ → List ℕ
-  extended w i = overwrite w (L .size * (n + i)) (flatMap (L .words) (from f i k))
-
-  pub extended-start : (w : List ℕ) → extendTable L w n (map f (range 0 k)) ≡ extended w 0
-  unfolding extended
-  extended-start w = rw (add-zero, from-all f k) refl
-
-  pub extended-next : (w : List ℕ) {v : List ℕ} (i : ℕ) → i < k → L .size * (n + k) ≤ length w → v ≡ overwrite w (L .size * (n + i)) (L .words (f i)) → extended w i ≡ extended v (i + 1)
-  unfolding extended flatMap
-  extended-next w i h s e =
-      let m : L .size * (n + i) ≤ L .size * (n + k) = mul-le-mul-left (L .size) (omega arith) in
-      rw (e, from-step f i k h, overwrite-over w (L .size * (n + i)) (L .words (f i)) _ (omega arith), F .words-length (f i), add-one, add-suc, mul-suc) refl
-
-  pub extended-end : (w : List ℕ) (i : ℕ) → k ≤ i → extended w i ≡ w
-  unfolding extended flatMap
-  extended-end w i h = rw (from-end f i k h) (overwrite-none w _)
 
 -- "columns get ids 1, 2, …"
 module _ (begin table : ℕ) (words names : List ℕ) where
