@@ -5,7 +5,7 @@ use Rattle.lists.proofs.Runs.{record-fits}
 use Rattle.lists.proofs.Places.{found-tells}
 use Rattle.layout.specs.Fields.{dataFileSize}
 use Rattle.layout.specs.Catalog.{dataFileOf}
-use Rattle.row_deletion.proofs.Found.{data-file-found, no-data-file}
+use Rattle.row_deletion.proofs.Found.{data-file-is}
 use Rattle.row_deletion.proofs.file.data_file_of_id.Statement.{statement}
 use Rattle.row_deletion.proofs.file.data_file_of_id.Tie as tie
 
@@ -16,10 +16,10 @@ data-file-at-requires c κs =
 
 returns : tie.Need-returns
 returns c =
-    ap dataFileOf (c .data-file-at .ensures) ∙ data-file-found _ _ _ (c .before .before .before .before .find-data-file .ensures) (c .before .before .found .given .1)
+    ap dataFileOf (c .data-file-at .ensures) ∙ data-file-is _ _ _ (c .before .before .before .before .find-data-file .ensures) (c .before .before .found .given .1)
 
 returns-2 : tie.Need-returns-2
-returns-2 c = no-data-file _ _ _ (c .before .before .find-data-file .ensures) (c .enum-told .given .1)
+returns-2 c = data-file-is _ _ _ (c .before .before .find-data-file .ensures) (c .enum-told .given .1)
 
 pub data-file-of-id-spec : {M : Type 1} → statement M
 data-file-of-id-spec =
