@@ -16,6 +16,7 @@ use Rattle.call_laws.proofs.Refusals.{AcceptedCall}
 use Rattle.refusals.specs.declared.checked.Checked.{Checked}
 use Rattle.refusals.specs.Checked.{checkedOf}
 use Rattle.refusals.proofs.Laws.{checked-ready}
+use Rattle.lookup.proofs.Findable.{findable}
 use Rattle.commits.proofs.Room.{snapshot-room}
 use Rattle.drops.specs.Lent.{DropSchemaLent, dropSchemaLeaves, DropTableLent, dropTableLeaves}
 use Rattle.drops.specs.DropRoom.{DropSchemaChecked, DropTableChecked, DropSchemaRoom, DropTableRoom}
@@ -31,7 +32,7 @@ module _ {checked : Checked} {ns ss ts : List ℕ} {c : Counts} (l : DropSchemaL
       let R = checked-ready (l .words) c (l .checked) h in
       record {
         latest = rw (l .snapshots) at (R .latest);
-        schemas = record { lent = rw (l .schemas) at (R .held .schemas); inside = omega arith; ascending = rw (l .schemas) at (R .schemaIds) };
+        schemas = rw (l .schemas) at (findable R .schemas);
         tables = rw (l .tables) at (R .held .tables);
       }
 
@@ -61,7 +62,7 @@ module _ {checked : Checked} {ns ts cs fs ds : List ℕ} {c : Counts} (l : DropT
       let R = checked-ready (l .words) c (l .checked) h in
       record {
         latest = rw (l .snapshots) at (R .latest);
-        tables = record { lent = rw (l .tables) at (R .held .tables); inside = omega arith; ascending = rw (l .tables) at (R .tableIds) };
+        tables = rw (l .tables) at (findable R .tables);
       }
 
   pub drop-table-judged : {n : ℕ} (k : Call) → ((w : Words) → w .snapshots ≡ ns → w .tables ≡ ts → checked ≡ checkedOf w c → (m : ℕ) → n ≡ refusal w c m k)

@@ -12,7 +12,7 @@ use Rattle.layout.specs.Fields.{schemaSize, schemaBeginWord, tableSize, tableBe
 use Rattle.layout.specs.Words.{Words}
 use Rattle.ducklake.specs.Arguments.{expiryListFits}
 use Rattle.call_laws.proofs.Ready.{Ready}
-use Rattle.lookup.specs.Order.{SnapshotsById, DataFilesById, DeleteFilesById}
+use Rattle.lookup.proofs.Findable.{findable}
 use Rattle.expiry.specs.Remaining.{Ids, Expirable, Versions}
 use Rattle.expiry.specs.Removed.{ExpiryChecked, Files}
 use Rattle.expiry.specs.Stayed.{NamedVersions, Located, StatisticsOfFiles}
@@ -23,12 +23,9 @@ unfolding expiryListFits
 list-ascends ids h = both (nonEmpty ids) (chained ltb ids) h .1
 
 module _ {w : Words} {c : Counts} (R : Ready w c) where
-  snapshots-by-id : SnapshotsById (w .snapshots) (c .snapshots)
-  snapshots-by-id = record { lent = R .held .snapshots; inside = omega arith; ascending = R .snapshotIds }
-
   pub expiry-checked : ExpiryChecked (w .snapshots) (w .dataFiles) (w .deleteFiles) c
   expiry-checked = record {
-    snapshots = snapshots-by-id;
+    snapshots = findable R .snapshots;
     some = R .latest .some;
     fewSnapshots = omega (arith, R .few .snapshots);
     dataFiles = R .held .dataFiles;
@@ -38,13 +35,7 @@ module _ {w : Words} {c : Counts} (R : Ready w c) where
   }
 
   pub expirable : (ids : List ℕ) → expiryListFits ids ≡ true → Expirable (w .snapshots) (c .snapshots) ids
-  expirable ids h = record { byId = snapshots-by-id; few = omega (arith, R .few .snapshots); ascending = list-ascends ids h }
-
-  data-files-by-id : DataFilesById (w .dataFiles) (c .«data_files»)
-  data-files-by-id = record { lent = R .held .dataFiles; inside = omega arith; ascending = R .dataFileIds }
-
-  delete-files-by-id : DeleteFilesById (w .deleteFiles) (c .«delete_files»)
-  delete-files-by-id = record { lent = R .held .deleteFiles; inside = omega arith; ascending = R .deleteFileIds }
+  expirable ids h = record { byId = findable R .snapshots; few = omega (arith, R .few .snapshots); ascending = list-ascends ids h }
 
   module _ {left : List ℕ} {m : ℕ} (L : Ids left m) where
     pub schema-versions : NamedVersions schemaSize schemaBeginWord (w .schemas) (w .schemaNames) (c .schemas) left m
@@ -63,10 +54,10 @@ module _ {w : Words} {c : Counts} (R : Ready w c) where
     delete-file-versions = record { held = R .held .deleteFiles; inside = omega arith; few = R .held .deleteFilesMost; byId = L }
 
     pub files : Files (w .dataFiles) (c .«data_files») (w .deleteFiles) (c .«delete_files») left m
-    files = record { dataFilesById = data-files-by-id; deleteFilesById = delete-files-by-id; dataFileVersions = data-file-versions; deleteFileVersions = delete-file-versions }
+    files = record { dataFilesById = findable R .dataFiles; deleteFilesById = findable R .deleteFiles; dataFileVersions = data-file-versions; deleteFileVersions = delete-file-versions }
 
     pub located : Located (w .deleteFiles) (w .positions) (c .«delete_files») left m
     located = record { versions = delete-file-versions; positionsHeld = omega (arith, R .added, R .held .positions) }
 
     pub statistics-of-files : StatisticsOfFiles (w .statistics) (c .statistics) (w .dataFiles) (c .«data_files») left m
-    statistics-of-files = record { held = R .held .statistics; few = omega (arith, R .few .statistics); files = record { byId = data-files-by-id; versions = data-file-versions } }
+    statistics-of-files = record { held = R .held .statistics; few = omega (arith, R .few .statistics); files = record { byId = findable R .dataFiles; versions = data-file-versions } }

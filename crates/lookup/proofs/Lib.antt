@@ -1,3 +1,4 @@
+pub mod Findable
 pub mod Liveness
 pub mod Locations
 pub mod Times

@@ -25,7 +25,7 @@ use Rattle.call_laws.proofs.Commits.{held-after}
 use Rattle.call_laws.proofs.CommitCounts.{delete-adds}
 use Rattle.call_laws.proofs.Ready.{Ready, ready, one-delete-file, positions-ascend}
 use Rattle.call_laws.proofs.Refusals.{AcceptedCall}
-use Rattle.lookup.specs.Order.{DataFilesById}
+use Rattle.lookup.proofs.Findable.{findable}
 use Rattle.commits.proofs.LentRecords.{files-lent}
 use Rattle.commits.proofs.Room.{snapshot-room}
 use Rattle.row_deletion.specs.Deleted.{DeletesKnown}
@@ -52,11 +52,8 @@ module _ (w : Words) (c : Counts) (R : Ready w c) where
     ascending = deleted-ascend;
   }
 
-  data-files : DataFilesById (w .dataFiles) (c .«data_files»)
-  data-files = record { lent = R .held .dataFiles; inside = omega arith; ascending = R .dataFileIds }
-
   pub delete-checked : DeleteChecked (w .snapshots) (w .dataFiles) (w .deleteFiles) (w .positions) (w .scheduled) c
-  delete-checked = record { latest = R .latest; dataFiles = data-files; deletes = deletes-known; files = files-lent w c R }
+  delete-checked = record { latest = R .latest; dataFiles = findable R .dataFiles; deletes = deletes-known; files = files-lent w c R }
 
 pub offence-sought : (w : Words) (c : Counts) (file : ℕ) (new : List ℕ) → Offence w c file new → OffenceSought (w .snapshots) (w .deleteFiles) (w .positions) c new
 offence-sought w c file new O =
@@ -72,7 +69,7 @@ delete-relies w c m terms file uuid new A =
     let h = held-after w c (A .fits) terms (delete file uuid new) (delete-adds (load w c) (terms .time) file uuid new) (A .room) in
     record {
       snapshots = snapshot-room w c _ 0 1 R refl h (omega arith) (omega arith);
-      dataFiles = data-files w c R;
+      dataFiles = findable R .dataFiles;
       deletes = deletes-known w c R;
       used = R .added;
       deleteFiles = omega (arith, h .deleteFiles);

@@ -23,22 +23,13 @@ use Rattle.call_laws.proofs.Commits.{held-after}
 use Rattle.call_laws.proofs.CommitCounts.{insert-adds}
 use Rattle.call_laws.proofs.Ready.{Ready, ready, table-small}
 use Rattle.call_laws.proofs.Refusals.{AcceptedCall}
-use Rattle.lookup.specs.Order.{TablesById}
+use Rattle.lookup.proofs.Findable.{findable}
 use Rattle.commits.proofs.LentRecords.{files-lent}
 use Rattle.commits.proofs.Room.{snapshot-room}
 use Rattle.row_insertion.specs.Written.{InsertChecked, InsertRoom}
 
-module _ (w : Words) (c : Counts) (R : Ready w c) where
-  by-id : TablesById (w .tables) (c .tables)
-  by-id = record { lent = R .held .tables; inside = omega arith; ascending = R .tableIds }
-
-  pub insert-checked : InsertChecked (w .snapshots) (w .tables) (w .columns) (w .dataFiles) (w .deleteFiles) (w .scheduled) c
-  insert-checked = record {
-    latest = R .latest;
-    tables = by-id;
-    columns = record { lent = R .held .columns; inside = omega arith; neverFalling = R .columnTables };
-    files = files-lent w c R;
-  }
+pub insert-checked : (w : Words) (c : Counts) → Ready w c → InsertChecked (w .snapshots) (w .tables) (w .columns) (w .dataFiles) (w .deleteFiles) (w .scheduled) c
+insert-checked w c R = record { latest = R .latest; tables = findable R .tables; columns = findable R .columns; files = files-lent w c R }
 
 -- a record count in its range
 few-rows : (n : ℕ) → isRecordCount n ≡ true → n ≤ recordCountLimit
@@ -55,7 +46,7 @@ insert-relies w c m terms table rows uuid statistics A =
     let h = held-after w c (A .fits) terms (insert table rows uuid statistics) (insert-adds (load w c) (terms .time) table rows uuid statistics) (A .room) in
     record {
       snapshots = snapshot-room w c _ 0 1 R refl h (omega arith) (omega arith);
-      tables = record { byId = by-id w c R; inLimit = λ i l. table-small R i l .nextRowId; few = few-rows rows (first-passed (callRefusals (load w c) k) (numbered-call (load w c) k) (A .judged) badRecordCount) };
+      tables = record { byId = findable R .tables; inLimit = λ i l. table-small R i l .nextRowId; few = few-rows rows (first-passed (callRefusals (load w c) k) (numbered-call (load w c) k) (A .judged) badRecordCount) };
       dataFiles = omega (arith, h .dataFiles);
       statistics = h .statistics;
     }

@@ -3,20 +3,18 @@ use mathlib.Core.Path.{_≡_}
 use mathlib.Core.Bool.{true}
 use mathlib.Core.List.{List}
 use Prim.Native.Nat.{ℕ}
-use native.Mathlib.Omega.{arith}
 use Rattle.layout.specs.declared.outcome.Counts.{Counts}
 use Rattle.layout.specs.Words.{Words}
 use Rattle.ducklake.specs.Soundness.{sound}
 use Rattle.call_laws.proofs.Ready.{ready}
-use Rattle.readings.proofs.Found.{data-files-by-id, delete-files-by-id}
+use Rattle.readings.proofs.Found.{data-files-by-id, delete-files-by-id, statistics-by-file}
 use Rattle.scans.specs.Readable.{FilesReadable}
 
 pub files-readable : (w : Words) (c : Counts) {fs ds qs : List ℕ} → sound w c ≡ true → w .dataFiles ≡ fs → w .deleteFiles ≡ ds → w .statistics ≡ qs → FilesReadable fs ds qs c
 files-readable w c h e f g =
-    let R = ready w c h in
     record {
       byId = data-files-by-id w c h e;
-      few = R .few .dataFiles;
+      few = ready w c h .few .dataFiles;
       lent = delete-files-by-id w c h f .lent;
-      byFile = rw (← g) (record { lent = R .held .statistics; inside = omega arith; neverFalling = R .statisticsFiles });
+      byFile = statistics-by-file w c h g;
     }

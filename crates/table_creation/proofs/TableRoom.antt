@@ -17,6 +17,7 @@ use Rattle.call_laws.proofs.Commits.{held-after}
 use Rattle.call_laws.proofs.CommitCounts.{create-table-adds}
 use Rattle.call_laws.proofs.Ready.{Ready, ready}
 use Rattle.call_laws.proofs.Refusals.{AcceptedCall}
+use Rattle.lookup.proofs.Findable.{findable}
 use Rattle.commits.proofs.Judged.{name-short}
 use Rattle.commits.proofs.LentRecords.{tables-named}
 use Rattle.commits.proofs.Room.{snapshot-room}
@@ -24,8 +25,7 @@ use Rattle.table_creation.specs.Appended.{ColumnsRoom}
 use Rattle.table_creation.specs.TableRoom.{TableChecked, TableRoom}
 
 pub table-checked : (w : Words) (c : Counts) → Ready w c → TableChecked (w .snapshots) (w .schemas) (w .tables) (w .tableNames) c
-table-checked w c R =
-    record { latest = R .latest; schemas = record { lent = R .held .schemas; inside = omega arith; ascending = R .schemaIds }; tables = tables-named w c R }
+table-checked w c R = record { latest = R .latest; schemas = findable R .schemas; tables = tables-named w c R }
 
 pub create-table-relies : (w : Words) (c : Counts) (m : ℕ) (terms : Terms) (schema : ℕ) (name words names : List ℕ) → AcceptedCall w c m (commitAt terms (createTable schema name words names))
     → TableRoom (w .snapshots) (w .tables) (w .tableNames) (w .columns) (w .columnNames) c name words names
