@@ -5,11 +5,11 @@ use mathlib.Core.Bool.{Bool, true, false, not, _&&_}
 use mathlib.Core.List.{List, [], _∷_, _++_}
 use native.Mathlib.Omega.{arith}
 use lib.Dec.{leb, ltb, eqb}
-use lib.ListN.{length, getD, take, drop}
-use borrow.Author.Tests.{eqb-true, eq-eqb, lt-ltb}
+use lib.ListN.{length, getD}
+use borrow.Author.Tests.{eqb-true, lt-ltb}
 use Rattle.lists.specs.declared.Found.{Found}
 use Rattle.lists.specs.declared.Found.the-variants.{At, Nothing}
-use Rattle.lists.specs.Lists.{all, nonEmpty, chained, has, place}
+use Rattle.lists.specs.Lists.{all, pairwise, nonEmpty, chained, has, place}
 use Rattle.lists.proofs.Tests.{if, and, both, clash}
 use Rattle.lists.proofs.Places.{isAt, any-place, found-tells}
 use Rattle.lists.proofs.Selections.{not-any-all}
@@ -21,11 +21,11 @@ use Rattle.layout.specs.Words.{Words, load, snapshotsIn, dataFilesIn}
 use Rattle.ducklake.specs.Kinds.{deletedFromTable}
 use Rattle.ducklake.specs.Liveness.{latestOf, latestId, dataFileOfId, deletedAt}
 use Rattle.ducklake.specs.Soundness.{snapshotInRange, sound}
-use Rattle.ducklake.specs.Refusals.{notSound, noRoom, shortAnswerArea, badPositions, alreadyDeleted, first}
+use Rattle.ducklake.specs.Refusals.{notSound, noRoom, shortAnswerArea, badPositions, alreadyDeleted}
 use Rattle.ducklake.specs.Arguments.{positionsFit}
 use Rattle.ducklake.specs.Commits.{delete, changeOf, numbersFit, following}
 use Rattle.ducklake.specs.Calls.{commitAt, offends, placeOf, callRefusals, effect, answer, hasRoom, refusal}
-use Rattle.ducklake.proofs.facts.FirstRefusals.{AllPassed, testOf}
+use Rattle.ducklake.proofs.facts.FirstRefusals.{first-refused}
 use Rattle.commits.proofs.Judged.{numbers-as}
 use Rattle.row_deletion.specs.Deleted.{placeOrZero, refusedPlace}
 use Rattle.row_deletion.specs.Lent.{deleteAdds}
@@ -65,15 +65,6 @@ module _ (w : Words) (c : Counts) (file : ℕ) (new : List ℕ) {old : List ℕ}
 
 -- The place
 
--- refused with a number: tests of other numbers are passed, and the rest comes to it
-passed-by : (number : ℕ) (ts : List (ℕ × Bool)) (rest : ℕ) → all (λ t. not (eqb (t .0) number)) ts ≡ true → first ts rest ≡ number → AllPassed ts × (rest ≡ number)
-unfolding all
-passed-by number [] rest a h = ((λ n. refl), h)
-passed-by number ((k, true) ∷ ts) rest a h =
-    let p = passed-by number ts rest (both (not (eqb k number)) (all (λ t. not (eqb (t .0) number)) ts) a .1) h in
-    ((λ n. if (eqb k n) (λ b. rw b refl) (λ b. rw b (p .0 n))), p .1)
-passed-by number ((k, false) ∷ ts) rest a h = clash (both (not (eqb k number)) (all (λ t. not (eqb (t .0) number)) ts) a .0) (ap not (eq-eqb k number h))
-
 -- what a delete that is refused with 17 passed, and what not
 pub record Offence (w : Words) (c : Counts) (file : ℕ) (new : List ℕ) : Type 0 where
   pub sound : sound w c ≡ true
@@ -102,12 +93,10 @@ module _ (w : Words) (c : Counts) (m : ℕ) (terms : Terms) (file : ℕ) (uuid :
   abbrev tests : List (ℕ × Bool)
   tests = (notSound, sound w c) ∷ callRefusals C (commitAt terms (delete file uuid new)) ++ (noRoom, hasRoom w (effect C (commitAt terms (delete file uuid new)))) ∷ (shortAnswerArea, leb (length (answer C (commitAt terms (delete file uuid new)))) m) ∷ []
 
-  -- before 17 come 1 and 6 to 16, behind it 4, 2, 3
+  -- the lines of 1 and 16 stand before that of 17
   pub offence : n ≡ alreadyDeleted → Offence w c file new
-  unfolding refusal all
-  offence z =
-      let p = passed-by alreadyDeleted (take 5 tests) _ refl (sym e ∙ z) in
-      record { sound = p .0 notSound; fit = p .0 badPositions; taken = if (testOf tests alreadyDeleted) (λ o. absurd (omega (arith, passed-by alreadyDeleted (drop 6 tests) 0 refl (rw o at (p .1)) .1))) (λ o. o) }
+  unfolding refusal all pairwise
+  offence z = let p = first-refused alreadyDeleted tests (omega arith) refl (sym e ∙ z) in record { sound = p .0 notSound; fit = p .0 badPositions; taken = p .1 }
 
   pub place-right : {old : List ℕ} {i : ℕ} → old ≡ deletedAt (C .deleteFiles) (latestId C) file → i ≡ refusedPlace n old new → placeOf C (commitAt terms (delete file uuid new)) n i ≡ true
   unfolding placeOf refusedPlace
