@@ -9,15 +9,15 @@ use Rattle.layout.specs.Fields.{snapshotSize}
 use Rattle.layout.specs.Records.{snapshotWords}
 use Rattle.layout.specs.Catalog.{Snapshot, snapshotOf, snapshotRecord}
 use Rattle.ducklake.specs.Commits.{following}
-use Rattle.ducklake.specs.Soundness.{snapshotInRange}
 use Rattle.commits.specs.Written.{SnapshotAppended}
+use Rattle.commits.proofs.Room.{can-follow}
 use Rattle.commits.proofs.append.append_snapshot.Statement.{statement}
 use Rattle.commits.proofs.append.append_snapshot.Tie as tie
 
 next-snapshot-requires : tie.Need-next-snapshot-requires
 next-snapshot-requires c κs =
     let p = c .before .before .before .pre in
-    record { inRange = ap snapshotInRange (c .latest-snapshot .ensures) ∙ p .latest .inRange; fewCatalogIds = p .fewCatalogIds; fewFileIds = p .fewFileIds }
+    can-follow (p .latest) (c .latest-snapshot .ensures) (p .fewCatalogIds) (p .fewFileIds)
 
 appended : (n a b : ℕ) {run run′ : List ℕ} {time kind object : ℕ} {l : Snapshot} (r s : SnapshotRecord) → snapshotOf r ≡ l → snapshotOf s ≡ following (snapshotOf r) time kind object a b
     → run′ ≡ overwrite run (snapshotSize * n) (snapshotWords s) → SnapshotAppended run n (following l time kind object a b) (s .id .0) run′

@@ -10,6 +10,7 @@ use Rattle.call_laws.proofs.CommitCounts.{delete-adds}
 use Rattle.refusals.proofs.Laws.{is-sound, room-as, unsound}
 use Rattle.refusals.proofs.Tests.{_then_, done, commit-judged}
 use Rattle.commits.proofs.Judged.{time-as, data-file-live-as}
+use Rattle.commits.proofs.Room.{can-follow}
 use Rattle.row_deletion.specs.DeleteRoom.{DeleteChecked}
 use Rattle.row_deletion.proofs.Judges.{fit-as, moves-as, undeleted-as, adds-as}
 use Rattle.row_deletion.proofs.Lent.{lent-checked, lent-deleted}
@@ -46,7 +47,7 @@ next-snapshot-requires : tie.Need-next-snapshot-requires
 next-snapshot-requires c κs =
     let sound : tie.Else1 = search in
     let latest : tie.After-latest-snapshot = search in
-    record { inRange = ap snapshotInRange (latest .latest-snapshot .ensures) ∙ looked sound .latest .inRange; fewCatalogIds = search needs; fewFileIds = search needs }
+    can-follow (looked sound .latest) (latest .latest-snapshot .ensures) (search needs) (search needs)
 
 add-delete-adds : tie.Need-add-delete-adds
 add-delete-adds c =

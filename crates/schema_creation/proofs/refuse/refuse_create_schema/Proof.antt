@@ -5,6 +5,7 @@ use borrow.Author.Tests.{not-false}
 use Rattle.ducklake.specs.Soundness.{snapshotInRange}
 use Rattle.call_laws.proofs.CommitCounts.{create-schema-adds}
 use Rattle.commits.proofs.Judged.{time-as, schema-name-as}
+use Rattle.commits.proofs.Room.{can-follow}
 use Rattle.refusals.proofs.Laws.{is-sound, unsound}
 use Rattle.refusals.proofs.Tests.{_then_, done, commit-judged}
 use Rattle.schema_creation.proofs.Effects.{create-schema-numbers}
@@ -31,11 +32,7 @@ next-snapshot-requires c κs =
     let start : tie.Start = search in
     let sound : tie.Else1 = search in
     let latest : tie.After-latest-snapshot = search in
-    record {
-      inRange = ap snapshotInRange (latest .latest-snapshot .ensures) ∙ start .pre (not-false _ (sound .if1 .left)) .0 .inRange;
-      fewCatalogIds = search needs;
-      fewFileIds = search needs;
-    }
+    can-follow (start .pre (not-false _ (sound .if1 .left)) .0) (latest .latest-snapshot .ensures) (search needs) (search needs)
 
 returns-2 : tie.Need-returns-2
 returns-2 c w p q r k m =

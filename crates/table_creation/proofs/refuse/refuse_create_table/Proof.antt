@@ -5,6 +5,7 @@ use borrow.Author.Tests.{not-false}
 use Rattle.ducklake.specs.Soundness.{snapshotInRange}
 use Rattle.call_laws.proofs.CommitCounts.{create-table-adds}
 use Rattle.commits.proofs.Judged.{time-as, schema-live-as, table-name-as}
+use Rattle.commits.proofs.Room.{can-follow}
 use Rattle.refusals.proofs.Laws.{is-sound, room-as, unsound}
 use Rattle.refusals.proofs.Tests.{_then_, done, commit-judged}
 use Rattle.table_creation.proofs.Judged.{table-numbers-as}
@@ -37,11 +38,7 @@ next-snapshot-requires c κs =
     let start : tie.Start = search in
     let sound : tie.Else1 = search in
     let latest : tie.After-latest-snapshot = search in
-    record {
-      inRange = ap snapshotInRange (latest .latest-snapshot .ensures) ∙ start .pre (not-false _ (sound .if1 .left)) .latest .inRange;
-      fewCatalogIds = search needs;
-      fewFileIds = search needs;
-    }
+    can-follow (start .pre (not-false _ (sound .if1 .left)) .latest) (latest .latest-snapshot .ensures) (search needs) (search needs)
 
 returns-2 : tie.Need-returns-2
 returns-2 c w p q r s k m =
