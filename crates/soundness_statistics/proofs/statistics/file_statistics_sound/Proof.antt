@@ -1,14 +1,14 @@
 -- `file_statistics_sound` meets its contract: each turn passes the next column, and with it, where its statistics are wanted, the next record.
 use borrow.Author.Needs.{needs}
 use Prim.Native.Nat.{ℕ, _-_, _≤_}
-use mathlib.Core.Path.{_≡_, sym, _∙_}
+use mathlib.Core.Path.{_≡_, sym, ap, _∙_}
 use mathlib.Core.List.{List}
 use native.Mathlib.Nat.{lt-of-lt-of-le}
 use native.Mathlib.Omega.{arith}
 use Rattle.lists.proofs.Runs.{record-fits}
-use Rattle.layout.specs.Catalog.{dataFileOf}
+use Rattle.layout.specs.Catalog.{dataFileOf, statisticsOf}
 use Rattle.layout.specs.Fields.{columnSize, statisticsSize}
-use Rattle.layout.specs.Words.{columnsIn, statisticsIn}
+use Rattle.layout.specs.Words.{columnsIn, statisticsAt, statisticsIn}
 use Rattle.ducklake.specs.Soundness.{fileStatisticsSound}
 use Rattle.soundness_statistics.proofs.FileStatistics.{judged, judged-start, judged-skip, judged-short, judged-pass, judged-fail, judged-end}
 use Rattle.soundness_statistics.proofs.statistics.file_statistics_sound.Statement.{statement}
@@ -18,7 +18,7 @@ abbrev Inv-loop : tie.InvT-loop
 Inv-loop columns n statistics m given file own c₀ x₀ c x =
     (c ≤ own .end) × (own .end ≤ n) × (x ≤ given .end) × (given .end ≤ m)
     × ((names : List ℕ) → fileStatisticsSound (columnsIn columns names n) (statisticsIn statistics m) (dataFileOf file)
-    ≡ judged columns names statistics (file .«record_count») (file .begin .0) (own .end) (given .end) c x)
+    ≡ judged columns names (statisticsAt statistics) (file .«record_count») (file .begin .0) (own .end) (given .end) c x)
 
 abbrev μ-loop : tie.MeasureT-loop
 μ-loop columns n statistics m given file own c₀ x₀ c x = own .end - c
@@ -55,7 +55,7 @@ returns-2 c names =
     let l : tie.At-loop Inv-loop μ-loop = search in
     sym (l .loop .inv .4 names
     ∙ judged-fail _ names _ _ _ _ _ _ _ (s .before .before .if1 .taken) (s .before .column-at .ensures) (s .statistics-wanted .ensures) (t .before .before .if2 .taken) (t .if3 .left)
-    (c .before .before .statistics-at .ensures) (c .before .statistics-fit .ensures) (c .if4 .taken))
+    (ap statisticsOf (c .before .before .statistics-at .ensures)) (c .before .statistics-fit .ensures) (c .if4 .taken))
 
 loop-again : tie.Need-loop-again Inv-loop μ-loop
 loop-again c =
@@ -68,7 +68,7 @@ loop-again c =
       l .3,
       λ names. l .4 names
           ∙ judged-pass _ names _ _ _ _ _ _ _ (s .before .before .if1 .taken) (s .before .column-at .ensures) (s .statistics-wanted .ensures) (t .before .before .if2 .taken) (t .if3 .left)
-          (c .before .before .statistics-at .ensures) (c .before .statistics-fit .ensures) (c .if4 .left),
+          (ap statisticsOf (c .before .before .statistics-at .ensures)) (c .before .statistics-fit .ensures) (c .if4 .left),
     )
 
 loop-again-2 : tie.Need-loop-again-2 Inv-loop μ-loop
