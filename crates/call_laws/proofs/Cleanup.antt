@@ -20,6 +20,20 @@ use Rattle.call_laws.proofs.Stores.{tableRun, run-compacted, scheduledT
 use Rattle.ducklake.specs.Maintenance.{due, handedSize, handedWords, handedOut, cleanup}
 use Rattle.ducklake.specs.Calls.{hasRoom}
 
+-- these counts, but so many scheduled records
+abbrev pub withScheduled : Counts → ℕ → Counts
+withScheduled c n = record {
+  snapshots = c .snapshots;
+  schemas = c .schemas;
+  tables = c .tables;
+  columns = c .columns;
+  «data_files» = c .«data_files»;
+  «delete_files» = c .«delete_files»;
+  positions = c .positions;
+  statistics = c .statistics;
+  scheduled = n;
+}
+
 module _ (w : Words) (c : Counts) (t : ℕ) where
   abbrev stays : Scheduled → Bool
   stays x = not (due t x)
@@ -54,29 +68,6 @@ module _ (w : Words) (c : Counts) (t : ℕ) where
         (sym (store-load w c h)) (run-compacted (tableRun scheduledTable) w c h (cleanup (load w c) t) stays q refl d k)
 
     pub cleanup-counts : {n : ℕ} → n ≡ length (filter stays (scheduledIn (w .scheduled) (c .scheduled)))
-        → record {
-          snapshots = c .snapshots;
-          schemas = c .schemas;
-          tables = c .tables;
-          columns = c .columns;
-          «data_files» = c .«data_files»;
-          «delete_files» = c .«delete_files»;
-          positions = c .positions;
-          statistics = c .statistics;
-          scheduled = n;
-        } ≡ countsOf (cleanup (load w c) t)
+        → withScheduled c n ≡ countsOf (cleanup (load w c) t)
     unfolding countsOf load cleanup
-    cleanup-counts e = λ i. record {
-      snapshots = ap (λ d. d .snapshots) same i;
-      schemas = ap (λ d. d .schemas) same i;
-      tables = ap (λ d. d .tables) same i;
-      columns = ap (λ d. d .columns) same i;
-      «data_files» = ap (λ d. d .«data_files») same i;
-      «delete_files» = ap (λ d. d .«delete_files») same i;
-      positions = ap (λ d. d .positions) same i;
-      statistics = ap (λ d. d .statistics) same i;
-      scheduled = e i;
-    }
-      where
-        same : c ≡ countsOf (load w c)
-        same = sym (counts-load w c h)
+    cleanup-counts e = ap₂ withScheduled (sym (counts-load w c h)) e

@@ -14,7 +14,7 @@ use Rattle.layout.specs.Words.{Words, scheduledAt}
 use Rattle.ducklake.specs.Maintenance.{due}
 use Rattle.ducklake.specs.Refusals.{accepted}
 use Rattle.ducklake.specs.Calls.{cleanUp, effect, answer, refusal, placeOf, perform, Promise}
-use Rattle.call_laws.proofs.Cleanup.{handed-words, cleanup-words, cleanup-counts}
+use Rattle.call_laws.proofs.Cleanup.{withScheduled, handed-words, cleanup-words, cleanup-counts}
 use Rattle.call_laws.proofs.Promises.{outcome, promise-refused, promise-accepted}
 use Rattle.call_laws.proofs.Ready.{Ready, ready}
 use Rattle.call_laws.proofs.Refusals.{AcceptedCall, accepted-call}
@@ -53,18 +53,7 @@ module _ {checked : Checked} {xs : List ℕ} {c : Counts} (l : CleanupLent check
     pub cleanup-done : {r k : ℕ} {xs′ area′ : List ℕ} → n ≡ 0 → Handed xs (c .scheduled) t area r area′
         → Compacted (rowPieces scheduledSize) (staysAt xs t) (c .scheduled) xs (scheduledSize * k) xs′
         → Promise (perform (cleanUp t) (l .words) c area)
-        (outcome accepted 0 r (record {
-          snapshots = c .snapshots;
-          schemas = c .schemas;
-          tables = c .tables;
-          columns = c .columns;
-          «data_files» = c .«data_files»;
-          «delete_files» = c .«delete_files»;
-          positions = c .positions;
-          statistics = c .statistics;
-          scheduled = k;
-        }))
-        (cleanupLeaves (l .words) xs′) area′
+        (outcome accepted 0 r (withScheduled c k)) (cleanupLeaves (l .words) xs′) area′
     unfolding effect answer
     cleanup-done {r} {k} {xs′} {area′} z h d =
         let w : Words = l .words in
