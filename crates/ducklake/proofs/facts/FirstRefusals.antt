@@ -1,11 +1,11 @@
 -- Refusals in a row: what the first that fails comes to.
 use Prim.Native.Nat.{ℕ, _≤_}
 use mathlib.Core.Path.{_≡_, refl, sym, ap, _∙_}
-use mathlib.Core.Bool.{Bool, true, false, cond, not}
+use mathlib.Core.Bool.{Bool, true, false, cond, not, _&&_}
 use mathlib.Core.List.{List, [], _∷_, _++_}
 use native.Mathlib.Omega.{arith}
 use lib.Dec.{eqb}
-use borrow.Author.Tests.{eqb-true, eq-eqb, ne-eqb}
+use borrow.Author.Tests.{eq-eqb, ne-eqb}
 use Rattle.lists.specs.Lists.{all, pairwise}
 use Rattle.lists.proofs.Tests.{if, both, clash}
 use Rattle.ducklake.specs.Refusals.{refuseUnless, first}
@@ -61,24 +61,24 @@ abbrev pub linesBefore : ℕ → List (ℕ × Bool) → List (ℕ × Bool)
 linesBefore number [] = []
 linesBefore number (t ∷ ts) = cond (eqb (t .0) number) [] (t ∷ linesBefore number ts)
 
--- no two lines have the same number
-abbrev pub numbersDiffer : List (ℕ × Bool) → Bool
-numbersDiffer ts = pairwise (λ t u. not (eqb (t .0) (u .0))) ts
+-- at most one line has the number
+abbrev pub standsOnce : ℕ → List (ℕ × Bool) → Bool
+standsOnce number ts = pairwise (λ t u. not (eqb (t .0) number && eqb (u .0) number)) ts
 
 -- a number that no line has refuses nothing
-none-refuses : (number : ℕ) (ts : List (ℕ × Bool)) → 1 ≤ number → all (λ t. not (eqb number (t .0))) ts ≡ true → first ts 0 ≡ number → ⊥
+none-refuses : (number : ℕ) (ts : List (ℕ × Bool)) → 1 ≤ number → all (λ t. not (eqb (t .0) number)) ts ≡ true → first ts 0 ≡ number → ⊥
 unfolding all
 none-refuses number [] l a h = omega arith
-none-refuses number ((k, true) ∷ ts) l a h = none-refuses number ts l (both (not (eqb number k)) (all (λ t. not (eqb number (t .0))) ts) a .1) h
-none-refuses number ((k, false) ∷ ts) l a h = clash (both (not (eqb number k)) (all (λ t. not (eqb number (t .0))) ts) a .0) (rw (eq-eqb number k (sym h)) refl)
+none-refuses number ((k, true) ∷ ts) l a h = none-refuses number ts l (both (not (eqb k number)) (all (λ t. not (eqb (t .0) number)) ts) a .1) h
+none-refuses number ((k, false) ∷ ts) l a h = clash (both (not (eqb k number)) (all (λ t. not (eqb (t .0) number)) ts) a .0) (ap not (eq-eqb k number h))
 
 -- refused with a number: each line before that of the number is passed, and that one is not
-pub first-refused : (number : ℕ) (ts : List (ℕ × Bool)) → 1 ≤ number → numbersDiffer ts ≡ true → first ts 0 ≡ number → AllPassed (linesBefore number ts) × (testOf ts number ≡ false)
+pub first-refused : (number : ℕ) (ts : List (ℕ × Bool)) → 1 ≤ number → standsOnce number ts ≡ true → first ts 0 ≡ number → AllPassed (linesBefore number ts) × (testOf ts number ≡ false)
 unfolding pairwise
 first-refused number [] l d h = absurd (omega arith)
 first-refused number ((k, true) ∷ ts) l d h =
-    let o = both (all (λ u. not (eqb k (u .0))) ts) (numbersDiffer ts) d in
+    let o = both (all (λ u. not (eqb k number && eqb (u .0) number)) ts) (standsOnce number ts) d in
     if (eqb k number)
-    (λ b. absurd (none-refuses k ts (omega (arith, l, eqb-true k number b)) (o .0) (h ∙ sym (eqb-true k number b))))
+    (λ b. absurd (none-refuses number ts l (ap (λ z. all (λ u. not (z && eqb (u .0) number)) ts) (sym b) ∙ o .0) h))
     (λ b. let r = first-refused number ts l (o .1) h in (λ n. rw b (if (eqb k n) (λ e. rw e refl) (λ e. rw e (r .0 n))), rw b (r .1)))
 first-refused number ((k, false) ∷ ts) l d h = rw (eq-eqb k number h) (λ n. refl, refl)
