@@ -3,7 +3,6 @@ use Prim.Native.Nat.{ℕ, _+_, _*_, _≤_}
 use mathlib.Core.List.{List}
 use lib.ListN.{length}
 use Rattle.layout.specs.declared.outcome.Counts.{Counts}
-use Rattle.layout.specs.Lent.{Run, LentRun}
 use Rattle.layout.specs.Fields.{schemaSize, schemaBeginWord, tableSize, tableBeginWord, columnSize, columnBeginWord, dataFileSize, dataFileBeginWord, deleteFileSize, deleteFileBeginWord, scheduledSize}
 use Rattle.expiry.specs.Remaining.{idsIn}
 use Rattle.expiry.specs.Removed.{removedFiles, Files, ScheduledMore}
@@ -37,7 +36,3 @@ pub record FilesLeft (fs ds ps qs xs : List ℕ) (c : Counts) (ids : List ℕ) (
   pub positions : PositionsLeft ds ps (c .«delete_files») ids (r .positions) ps′
   pub statistics : StatisticsLeft qs (c .statistics) fs (c .«data_files») ids (r .statistics) qs′
   pub scheduled : ScheduledMore (removedFiles fs (c .«data_files») ds (c .«delete_files») ids time) xs (c .scheduled) (r .scheduled) xs′
-
--- an answer area that a function is not lent, as one that it leaves as it was; where it lies is nothing to a promise
-abbrev pub unlent : List ℕ → LentRun
-unlent area = let it : Run = record { ptr = (0, 0); name = 0; now = area } in record { entry = it; exit = it }

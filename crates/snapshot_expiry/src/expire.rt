@@ -1,10 +1,9 @@
 ghost use mathlib.Core.Path.{_≡_};
 ghost use mathlib.Core.List.{List};
 ghost use Prim.Native.Nat.{ℕ};
-ghost use Rattle.layout.specs.Lent.{lentNow};
-ghost use Rattle.ducklake.specs.Calls.{expireSnapshots, perform, Promised};
+ghost use Rattle.layout.specs.Lent.{lentNow, atEntry, atExit};
+ghost use Rattle.ducklake.specs.Calls.{expireSnapshots, perform, Promise};
 ghost use Rattle.refusals.specs.Checked.{checkedOf};
-ghost use Rattle.snapshot_expiry.specs.Written.{unlent};
 use crate::definitions::expire_definitions;
 use crate::files::expire_files;
 use expiry::refuse::refuse_expiry;
@@ -38,9 +37,11 @@ pub fn expire_snapshots(
     requires { ⌜ checked ≡ checkedOf
         (lentNow snapshots schemas «schema_names» tables «table_names» columns «column_names» «data_files» «delete_files» positions statistics scheduled)
         counts ⌝ }
-    ensures { λ r. ⌜ ((area : List ℕ) → Promised (perform (expireSnapshots (now (ids .entry)) time))
-        snapshots schemas «schema_names» tables «table_names» columns «column_names» «data_files» «delete_files» positions statistics scheduled
-        counts (unlent area) r) ⌝ }
+    ensures { λ r. ⌜ ((area : List ℕ) → Promise (perform (expireSnapshots (now (ids .entry)) time)
+        (atEntry snapshots schemas «schema_names» tables «table_names» columns «column_names» «data_files» «delete_files» positions statistics scheduled)
+        counts area) r
+        (atExit snapshots schemas «schema_names» tables «table_names» columns «column_names» «data_files» «delete_files» positions statistics scheduled)
+        area) ⌝ }
 {
     let number = refuse_expiry(checked, snapshots, data_files, delete_files, counts, ids);
     if number != ACCEPTED {
