@@ -1,7 +1,7 @@
 // The diary session of document 01, its first three calls.
 ghost use Rattle.ducklake.specs.Calls.{Promised};
 ghost use Rattle.diary_session.specs.Session.{begun};
-use catalog_definitions::create_table::catalog_create_table;
+use catalog_creates::create_table::catalog_create_table;
 use catalog_fresh::fresh::catalog_fresh;
 use catalog_row_changes::insert::catalog_insert;
 use diary_session::DIARY;

@@ -2,8 +2,8 @@
 use borrow.Author.Needs.{needs}
 use mathlib.Core.Path.{refl}
 use Rattle.schema_creation.proofs.Lent.{create-schema-lent}
-use Rattle.catalog_definitions.proofs.create_schema.catalog_create_schema.Statement.{statement}
-use Rattle.catalog_definitions.proofs.create_schema.catalog_create_schema.Tie as tie
+use Rattle.catalog_creates.proofs.create_schema.catalog_create_schema.Statement.{statement}
+use Rattle.catalog_creates.proofs.create_schema.catalog_create_schema.Tie as tie
 
 create-schema-requires : tie.Need-create-schema-requires
 create-schema-requires c κs =

@@ -2,8 +2,8 @@
 use borrow.Author.Needs.{needs}
 use mathlib.Core.Path.{refl}
 use Rattle.drops.proofs.Lent.{drop-schema-lent}
-use Rattle.catalog_definitions.proofs.drop_schema.catalog_drop_schema.Statement.{statement}
-use Rattle.catalog_definitions.proofs.drop_schema.catalog_drop_schema.Tie as tie
+use Rattle.catalog_drops.proofs.drop_schema.catalog_drop_schema.Statement.{statement}
+use Rattle.catalog_drops.proofs.drop_schema.catalog_drop_schema.Tie as tie
 
 drop-schema-requires : tie.Need-drop-schema-requires
 drop-schema-requires c κs =

@@ -2,8 +2,8 @@
 use borrow.Author.Needs.{needs}
 use mathlib.Core.Path.{refl}
 use Rattle.drops.proofs.Lent.{drop-table-lent}
-use Rattle.catalog_definitions.proofs.drop_table.catalog_drop_table.Statement.{statement}
-use Rattle.catalog_definitions.proofs.drop_table.catalog_drop_table.Tie as tie
+use Rattle.catalog_drops.proofs.drop_table.catalog_drop_table.Statement.{statement}
+use Rattle.catalog_drops.proofs.drop_table.catalog_drop_table.Tie as tie
 
 drop-table-requires : tie.Need-drop-table-requires
 drop-table-requires c κs =

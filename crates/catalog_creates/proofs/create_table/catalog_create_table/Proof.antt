@@ -2,8 +2,8 @@
 use borrow.Author.Needs.{needs}
 use mathlib.Core.Path.{refl}
 use Rattle.table_creation.proofs.Lent.{create-table-lent}
-use Rattle.catalog_definitions.proofs.create_table.catalog_create_table.Statement.{statement}
-use Rattle.catalog_definitions.proofs.create_table.catalog_create_table.Tie as tie
+use Rattle.catalog_creates.proofs.create_table.catalog_create_table.Statement.{statement}
+use Rattle.catalog_creates.proofs.create_table.catalog_create_table.Tie as tie
 
 create-table-requires : tie.Need-create-table-requires
 create-table-requires c κs =
