@@ -1,3 +1,4 @@
+pub mod Areas
 pub mod Cleanup
 pub mod CommitCounts
 pub mod CommitPromises

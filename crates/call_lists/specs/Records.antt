@@ -1,14 +1,13 @@
--- How a call lies in a list of calls: twelve words, in this order.
-use Prim.Native.Nat.{ℕ, _+_}
-use mathlib.Core.List.{List, [], _∷_}
+-- How a call or a reading lies in a list of them: sixteen words, in this order.
+use Prim.Native.Nat.{ℕ, _+_, _*_}
+use mathlib.Core.List.{List}
 use lib.ListN.{getD}
-use Rattle.lists.specs.Runs.{Layout}
-use Rattle.layout.specs.Records.{uuidOf}
+use Rattle.layout.specs.Records.{snapshotId, catalogId, fileId, uuidOf}
 use Rattle.call_lists.specs.declared.record.Span.{Span}
 use Rattle.call_lists.specs.declared.record.CallRecord.{CallRecord}
 
 abbrev pub callSize : ℕ
-callSize = 12
+callSize = 16
 
 abbrev pub callKindWord : ℕ
 callKindWord = 0
@@ -16,35 +15,47 @@ callKindWord = 0
 abbrev pub callTimeWord : ℕ
 callTimeWord = 1
 
-abbrev pub callObjectWord : ℕ
-callObjectWord = 2
+abbrev pub callSnapshotWord : ℕ
+callSnapshotWord = 2
+
+abbrev pub callCatalogWord : ℕ
+callCatalogWord = 3
+
+abbrev pub callFileWord : ℕ
+callFileWord = 4
+
+abbrev pub callColumnWord : ℕ
+callColumnWord = 5
+
+abbrev pub callScalarWord : ℕ
+callScalarWord = 6
 
 abbrev pub callRecordCountWord : ℕ
-callRecordCountWord = 3
+callRecordCountWord = 7
 
 abbrev pub callUuidHighWord : ℕ
-callUuidHighWord = 4
+callUuidHighWord = 8
 
 abbrev pub callUuidLowWord : ℕ
-callUuidLowWord = 5
+callUuidLowWord = 9
 
 abbrev pub callWordsStartWord : ℕ
-callWordsStartWord = 6
+callWordsStartWord = 10
 
 abbrev pub callWordsLengthWord : ℕ
-callWordsLengthWord = 7
+callWordsLengthWord = 11
 
 abbrev pub callNameStartWord : ℕ
-callNameStartWord = 8
+callNameStartWord = 12
 
 abbrev pub callNameLengthWord : ℕ
-callNameLengthWord = 9
+callNameLengthWord = 13
 
 abbrev pub callNamesStartWord : ℕ
-callNamesStartWord = 10
+callNamesStartWord = 14
 
 abbrev pub callNamesLengthWord : ℕ
-callNamesLengthWord = 11
+callNamesLengthWord = 15
 
 abbrev pub spanOf : ℕ → ℕ → Span
 spanOf start count = record { start = start; length = count }
@@ -53,7 +64,11 @@ abbrev pub readCall : List ℕ → ℕ → CallRecord
 readCall w k = record {
   kind = getD w (k + callKindWord) 0;
   time = getD w (k + callTimeWord) 0;
-  object = getD w (k + callObjectWord) 0;
+  snapshot = snapshotId (getD w (k + callSnapshotWord) 0);
+  catalog = catalogId (getD w (k + callCatalogWord) 0);
+  file = fileId (getD w (k + callFileWord) 0);
+  column = getD w (k + callColumnWord) 0;
+  scalar = getD w (k + callScalarWord) 0;
   «record_count» = getD w (k + callRecordCountWord) 0;
   uuid = uuidOf (getD w (k + callUuidHighWord) 0) (getD w (k + callUuidLowWord) 0);
   words = spanOf (getD w (k + callWordsStartWord) 0) (getD w (k + callWordsLengthWord) 0);
@@ -61,10 +76,6 @@ readCall w k = record {
   names = spanOf (getD w (k + callNamesStartWord) 0) (getD w (k + callNamesLengthWord) 0);
 }
 
-unfoldable pub callWords : CallRecord → List ℕ
-callWords r =
-    (r .kind) ∷ (r .time) ∷ (r .object) ∷ (r .«record_count») ∷ (r .uuid .high) ∷ (r .uuid .low) ∷ (r .words .start) ∷ (r .words .length)
-    ∷ (r .name .start) ∷ (r .name .length) ∷ (r .names .start) ∷ (r .names .length) ∷ []
-
-abbrev pub callLayout : Layout CallRecord
-callLayout = record { size = callSize; read = readCall; words = callWords }
+-- the record at place i
+abbrev pub callAt : List ℕ → ℕ → CallRecord
+callAt w i = readCall w (callSize * i)

@@ -1,20 +1,13 @@
--- `words_of` meets its contract: a span past the end, one that leaves the run, one inside.
+-- `words_of` meets its contract: the part from the span's start to its end.
 use borrow.Author.Needs.{needs}
-use Rattle.call_lists.proofs.Parts.{part-past, part-end, part-inside}
+use Rattle.call_lists.proofs.Parts.{part-is}
 use Rattle.call_lists.proofs.part.words_of.Statement.{statement}
 use Rattle.call_lists.proofs.part.words_of.Tie as tie
 
 returns : tie.Need-returns
-returns c = let a = c .before .before .args in part-past (a .run .now) (a .span) (c .before .if1 .taken)
-
-returns-2 : tie.Need-returns-2
-returns-2 c = let a = c .before .before .before .before .args in part-end (a .run .now) (a .span) (c .before .if2 .taken)
-
-returns-3 : tie.Need-returns-3
-returns-3 c = let a = c .before .before .before .before .before .args in part-inside (a .run .now) (a .span)
+returns c =
+    let start : tie.Start = search in
+    part-is (start .args .run .now) (start .args .span)
 
 pub words-of-spec : {M : Type 1} → statement M
-words-of-spec =
-    tie.close
-    (tie.spec (λ c. search needs) returns (λ c. search needs) (λ c. search needs) (λ c. search needs) (λ c. search needs) (λ c. search needs) returns-2 (λ c. search needs) (λ c. search needs) (λ c. search needs)
-    (λ c. search needs) (λ c. search needs) returns-3)
+words-of-spec = tie.close (tie.spec (λ c. search needs) (λ c. search needs) (λ c. search needs) (λ c. search needs) (λ c. search needs) returns)
