@@ -429,7 +429,7 @@ gukoremo_outcome catalog_table_by_name(
     GUKOREMO_READ, gukoremo_snapshot_id snapshot, gukoremo_catalog_id schema, const uint8_t *name, size_t name_length, GUKOREMO_AREA);
 gukoremo_outcome catalog_list_files(GUKOREMO_READ, gukoremo_snapshot_id snapshot, gukoremo_catalog_id table, GUKOREMO_AREA);
 gukoremo_outcome catalog_list_filtered_files(
-    GUKOREMO_READ, gukoremo_snapshot_id snapshot, gukoremo_catalog_id table, uint64_t column, uint64_t scalar, GUKOREMO_AREA);
+    GUKOREMO_READ, gukoremo_snapshot_id snapshot, gukoremo_catalog_id table, uint64_t column, int64_t scalar, GUKOREMO_AREA);
 gukoremo_outcome catalog_list_rows(GUKOREMO_READ, gukoremo_snapshot_id snapshot, gukoremo_catalog_id table, GUKOREMO_AREA);
 gukoremo_outcome catalog_snapshot_by_time(GUKOREMO_READ, uint64_t t, GUKOREMO_AREA);
 gukoremo_outcome catalog_copy_file(GUKOREMO_READ, gukoremo_file_id id, GUKOREMO_AREA);
@@ -602,7 +602,7 @@ static inline gukoremo_outcome gukoremo_list_filtered_files(const gukoremo_table
     gukoremo_catalog_id table, uint64_t column, int64_t scalar, uint64_t *area, size_t area_length)
 {
     return catalog_list_filtered_files(
-        GUKOREMO_LENT(runs), counts, snapshot, table, column, (uint64_t)scalar, GUKOREMO_WORDS(area, area_length));
+        GUKOREMO_LENT(runs), counts, snapshot, table, column, scalar, GUKOREMO_WORDS(area, area_length));
 }
 
 /* The rows of a table at a snapshot, file after file, a word each. Refused with 1, 5, 6, 3. */

@@ -1,4 +1,3 @@
-ghost use Rattle.layout.specs.Types.{signed};
 ghost use Rattle.ducklake.specs.Readings.{Query};
 ghost use Rattle.ducklake.specs.Calls.{queryAt, performReading, Promised};
 use layout::number::CatalogId;
@@ -8,8 +7,7 @@ use layout::outcome::Outcome;
 use scans::filtered::list_filtered_files;
 use soundness::checked::check;
 
-// The files of a table at a retained snapshot that its statistics keep for `column = scalar`, each with its delete file. The scalar is a signed number, by
-// its word.
+// The files of a table at a retained snapshot that its statistics keep for `column = scalar`, each with its delete file.
 #[no_mangle]
 pub extern "C" fn catalog_list_filtered_files(
     snapshots: &[u64],
@@ -28,10 +26,10 @@ pub extern "C" fn catalog_list_filtered_files(
     snapshot: SnapshotId,
     table: CatalogId,
     column: u64,
-    scalar: u64,
+    scalar: i64,
     area: &mut [u64],
 ) -> Outcome
-    ensures { λ r. ⌜ Promised (performReading (queryAt (snapshot .0) (Query.filteredFiles (table .0) column (signed scalar))))
+    ensures { λ r. ⌜ Promised (performReading (queryAt (snapshot .0) (Query.filteredFiles (table .0) column scalar)))
         snapshots schemas «schema_names» tables «table_names» columns «column_names» «data_files» «delete_files» positions statistics scheduled
         counts area r ⌝ }
 {

@@ -2,7 +2,6 @@ ghost use mathlib.Core.Path.{_≡_};
 ghost use mathlib.Core.List.{List};
 ghost use Prim.Native.Nat.{ℕ};
 ghost use lib.IntN.{ℤ};
-ghost use Rattle.layout.specs.Types.{signed};
 ghost use Rattle.layout.specs.Words.{columnsIn};
 ghost use Rattle.ducklake.specs.Liveness.{columnLive};
 ghost use Rattle.ducklake.specs.Readings.{Query};
@@ -13,7 +12,6 @@ ghost use Rattle.readings.specs.Lent.{ColumnsLent};
 ghost use Rattle.scans.specs.Lent.{FilteredLent};
 use crate::files::read_files;
 use crate::filter::Filter;
-use column_types::to_signed;
 use layout::number::CatalogId;
 use layout::number::SnapshotId;
 use layout::outcome::ACCEPTED;
@@ -78,8 +76,7 @@ fn refuse_column(
     first_refusal(&numbers, &passed)
 }
 
-// The files of a table at a retained snapshot that its statistics keep for `column = scalar`, of tables that were checked. The scalar is a signed number,
-// by its word.
+// The files of a table at a retained snapshot that its statistics keep for `column = scalar`, of tables that were checked.
 pub fn list_filtered_files(
     checked: Checked,
     snapshots: &[u64],
@@ -92,13 +89,13 @@ pub fn list_filtered_files(
     s: SnapshotId,
     table: CatalogId,
     column: u64,
-    scalar: u64,
+    scalar: i64,
     area: &mut [u64],
 ) -> Outcome
     requires { ⌜ FilteredLent checked (now snapshots) (now tables) (now columns) (now «data_files») (now «delete_files») (now statistics) counts ⌝ }
     ensures { λ r. ⌜ ((l : FilteredLent checked (now (snapshots .entry)) (now (tables .entry)) (now (columns .entry)) (now («data_files» .entry))
         (now («delete_files» .entry)) (now (statistics .entry)) counts)
-        → Promise (performReading (queryAt (s .0) (Query.filteredFiles (table .0) column (signed scalar))) (l .words) counts (now (area .entry)))
+        → Promise (performReading (queryAt (s .0) (Query.filteredFiles (table .0) column scalar)) (l .words) counts (now (area .entry)))
         r (l .words) (now (area .exit))) ⌝ }
 {
     let number = refuse_column(
@@ -119,7 +116,6 @@ pub fn list_filtered_files(
             counts,
         };
     }
-    let value = to_signed(scalar);
     let answer = read_files(
         data_files,
         delete_files,
@@ -127,7 +123,7 @@ pub fn list_filtered_files(
         counts,
         table,
         s,
-        Filter::Equal(column, value),
+        Filter::Equal(column, scalar),
         area,
     );
     Outcome {

@@ -162,7 +162,7 @@ impl Proved {
             }
             Reading::Files { snapshot, table } => raw::list_files(lent, counts, SnapshotId(*snapshot), CatalogId(*table), area),
             Reading::FilteredFiles { snapshot, table, column, scalar } => {
-                raw::list_filtered_files(lent, counts, SnapshotId(*snapshot), CatalogId(*table), *column, *scalar as u64, area)
+                raw::list_filtered_files(lent, counts, SnapshotId(*snapshot), CatalogId(*table), *column, *scalar, area)
             }
             Reading::Rows { snapshot, table } => raw::list_rows(lent, counts, SnapshotId(*snapshot), CatalogId(*table), area),
             Reading::ByTime { t } => raw::snapshot_by_time(lent, counts, *t, area),

@@ -74,7 +74,7 @@ pub fn files(lake: &Lake, at: SnapshotId, table: CatalogId, filter: Option<(u64,
     let room = 2 * lake.counts().data_files.min(lake.view().data_files.len());
     let words = ask(lake, room, |lent, counts, area| match filter {
         None => raw::list_files(lent, counts, at, table, area),
-        Some((column, scalar)) => raw::list_filtered_files(lent, counts, at, table, column, scalar as u64, area),
+        Some((column, scalar)) => raw::list_filtered_files(lent, counts, at, table, column, scalar, area),
     });
     let thing = match filter {
         None => format!("table {}", table.0),

@@ -201,7 +201,7 @@ impl<T: Lend> Catalog<T> {
 
     /// The files that may hold a row with that value in the column, by their statistics.
     pub fn list_filtered_files(&self, snapshot: SnapshotId, table: CatalogId, column: u64, scalar: i64) -> Result<Vec<Listed>, Refusal> {
-        let words = self.read(|lent, counts, area| raw::list_filtered_files(lent, counts, snapshot, table, column, scalar as u64, area))?;
+        let words = self.read(|lent, counts, area| raw::list_filtered_files(lent, counts, snapshot, table, column, scalar, area))?;
         Ok(listed(&words))
     }
 

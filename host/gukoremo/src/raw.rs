@@ -161,9 +161,8 @@ reads! {
         snapshot => SnapshotId, schema => CatalogId, name.as_ptr() => *const u8, name.len() => usize);
     /// The answer is two words for each file: data file, delete file or ABSENT.
     list_files(snapshot: SnapshotId, table: CatalogId) = catalog_list_files(snapshot => SnapshotId, table => CatalogId);
-    /// The scalar is a signed number as its word.
-    list_filtered_files(snapshot: SnapshotId, table: CatalogId, column: u64, scalar: u64) = catalog_list_filtered_files(
-        snapshot => SnapshotId, table => CatalogId, column => u64, scalar => u64);
+    list_filtered_files(snapshot: SnapshotId, table: CatalogId, column: u64, scalar: i64) = catalog_list_filtered_files(
+        snapshot => SnapshotId, table => CatalogId, column => u64, scalar => i64);
     list_rows(snapshot: SnapshotId, table: CatalogId) = catalog_list_rows(snapshot => SnapshotId, table => CatalogId);
     snapshot_by_time(t: u64) = catalog_snapshot_by_time(t => u64);
     /// The answer is the eight words of a data file's or of a delete file's record.

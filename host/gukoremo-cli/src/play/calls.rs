@@ -84,7 +84,7 @@ pub fn call(stage: &mut Stage, given: &mut Arguments<'_>) -> Result<Option<Outco
         "list_filtered_files" => {
             let (at, table, column) = (SnapshotId(given.word("SNAPSHOT")?), CatalogId(given.word("TABLE")?), given.word("COLUMN")?);
             let scalar = last(given.word("SCALAR"), given)?;
-            stage.read(|lent, counts, area| raw::list_filtered_files(lent, counts, at, table, column, scalar, area))
+            stage.read(|lent, counts, area| raw::list_filtered_files(lent, counts, at, table, column, scalar as i64, area))
         }
         "table_by_name" => {
             let (at, schema) = (SnapshotId(given.word("SNAPSHOT")?), CatalogId(given.word("SCHEMA")?));
