@@ -1,17 +1,20 @@
 ghost use mathlib.Core.Path.{_≡_};
+ghost use mathlib.Core.Bool.{true};
+ghost use lib.ListN.{length};
 ghost use Rattle.layout.specs.Lent.{lentNow};
-ghost use Rattle.ducklake.specs.Calls.{perform, Promised};
+ghost use Rattle.ducklake.specs.Calls.{Promised};
 ghost use Rattle.refusals.specs.Checked.{checkedOf};
-ghost use Rattle.call_lists.specs.Calls.{callOf};
+ghost use Rattle.call_lists.specs.Calls.{performAsked, askedOf, spansFit};
 use call_lists::part::bytes_of;
 use call_lists::part::words_of;
 use call_lists::record::CallRecord;
 use call_lists::record::EXPIRED_SNAPSHOTS;
+use call_lists::record::MADE_FRESH;
+use call_lists::record::is_reading;
+use catalog_fresh::start::start;
 use cleanup::clean::clean_up;
 use drops::drop::drop_schema;
 use drops::drop::drop_table;
-use layout::number::CatalogId;
-use layout::number::FileId;
 use layout::outcome::Counts;
 use layout::outcome::Outcome;
 use layout::outcome::Terms;
@@ -21,6 +24,7 @@ use layout::record::DELETED_FROM_TABLE;
 use layout::record::DROPPED_SCHEMA;
 use layout::record::DROPPED_TABLE;
 use layout::record::INSERTED_INTO_TABLE;
+use reading_dispatch::read::read;
 use refusals::checked::Checked;
 use row_deletion::delete::delete_rows;
 use row_insertion::insert::insert_rows;
@@ -28,7 +32,7 @@ use schema_creation::create::create_schema;
 use snapshot_expiry::expire::expire_snapshots;
 use table_creation::create::create_table;
 
-// Plays the call that a record of a list stands for, on checked tables. A list ends before a record that is no call's, so that what is left is a cleanup.
+// Plays what a record of a list asks for, on checked tables. A list ends before a record that asks for nothing, so that what is left is a cleanup.
 pub fn play(
     checked: Checked,
     snapshots: &mut [u64],
@@ -52,12 +56,34 @@ pub fn play(
     requires { ⌜ checked ≡ checkedOf
         (lentNow snapshots schemas «schema_names» tables «table_names» columns «column_names» «data_files» «delete_files» positions statistics scheduled)
         counts ⌝ }
-    ensures { λ r. ⌜ Promised (perform (callOf (now (lists .entry)) (now (names .entry)) call))
+    requires { ⌜ spansFit (length (now lists)) (length (now names)) call ≡ true ⌝ }
+    ensures { λ r. ⌜ Promised (performAsked (askedOf (now (lists .entry)) (now (names .entry)) call))
         snapshots schemas «schema_names» tables «table_names» columns «column_names» «data_files» «delete_files» positions statistics scheduled
         counts area r ⌝ }
 {
-    let terms = Terms { time: call.time };
     let kind = call.kind;
+    if is_reading(kind) {
+        return read(
+            checked,
+            snapshots,
+            schemas,
+            schema_names,
+            tables,
+            table_names,
+            columns,
+            column_names,
+            data_files,
+            delete_files,
+            positions,
+            statistics,
+            scheduled,
+            counts,
+            names,
+            call,
+            area,
+        );
+    }
+    let terms = Terms { time: call.time };
     match kind {
         CREATED_SCHEMA => {
             let name = bytes_of(names, call.name);
@@ -85,7 +111,7 @@ pub fn play(
                 column_names,
                 counts,
                 terms,
-                CatalogId(call.object),
+                call.catalog,
                 name,
                 new_columns,
                 new_column_names,
@@ -99,7 +125,7 @@ pub fn play(
                 tables,
                 counts,
                 terms,
-                CatalogId(call.object),
+                call.catalog,
             )
         }
         DROPPED_TABLE => {
@@ -112,7 +138,7 @@ pub fn play(
                 delete_files,
                 counts,
                 terms,
-                CatalogId(call.object),
+                call.catalog,
             )
         }
         INSERTED_INTO_TABLE => {
@@ -128,7 +154,7 @@ pub fn play(
                 scheduled,
                 counts,
                 terms,
-                CatalogId(call.object),
+                call.catalog,
                 call.record_count,
                 call.uuid,
                 new_statistics,
@@ -145,7 +171,7 @@ pub fn play(
                 scheduled,
                 counts,
                 terms,
-                FileId(call.object),
+                call.file,
                 call.uuid,
                 new_positions,
             )
@@ -171,6 +197,14 @@ pub fn play(
                 call.time,
             )
         }
+        MADE_FRESH => start(
+            checked.room,
+            snapshots,
+            schemas,
+            schema_names,
+            counts,
+            call.time,
+        ),
         _ => clean_up(checked, scheduled, counts, call.time, area),
     }
 }

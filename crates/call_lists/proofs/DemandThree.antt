@@ -173,16 +173,17 @@ module _ (calls lists names : List ℕ) (w : Words) (c : Counts) (a t : List ℕ
             → (x : Reads (state i) s q) × (given x ≡ answerAt t′ a′ (suc i))
         read i s q h e f =
             let p = come i (omega (arith, h)) in
-            let k = kept-one (state i) (suc i) (omega (arith, h, all)) (not-first i) (p .1) (p .2) in
-            (record {
-              area = left (at (suc i));
-              outcome = saw (suc i) .outcome;
-              words = saw (suc i) .words;
-              areaLeft = saw (suc i) .areaLeft;
-              kept = subst (λ (r : Request). Promise (performRequest r (state i .words) (state i .counts) (left (at (suc i)))) (saw (suc i) .outcome) (saw (suc i) .words) (saw (suc i) .areaLeft)) e k;
-              room = f;
-            },
-            λ j. record { number = numberTold t′ (suc i); words = answer-is i h j })
+            let k = kept-one (state i) (suc i) (omega (arith, h, all)) (not-first i) (p .1) (p .2) in (
+              record {
+                area = left (at (suc i));
+                outcome = saw (suc i) .outcome;
+                words = saw (suc i) .words;
+                areaLeft = saw (suc i) .areaLeft;
+                kept = subst (λ (r : Request). Promise (performRequest r (state i .words) (state i .counts) (left (at (suc i)))) (saw (suc i) .outcome) (saw (suc i) .words) (saw (suc i) .areaLeft)) e k;
+                room = f;
+              },
+              λ j. record { number = numberTold t′ (suc i); words = answer-is i h j },
+            )
 
         stay : (i k s : ℕ) (q : Query) → i + k < n → asks-for (suc i) ≡ reads (queryAt s q) → asks-for (suc (i + k)) ≡ reads (queryAt s q)
             → isRetained (state i) s ≡ true → isRetained (state (i + k)) s ≡ true

@@ -1,6 +1,7 @@
 -- What a list comes to, record by record: no answer is longer than what is left of the area, and each outcome is told.
-use Prim.Native.Nat.{ℕ, zero, suc, _+_, _-_, _*_, _≤_, _<_}
+use Prim.Native.Nat.{ℕ, zero, suc, _+_, _-_, _*_, _/_, _≤_, _<_, min}
 use mathlib.Core.Path.{_≡_, refl, sym, ap, ap₂, subst, _∙_}
+use mathlib.Core.Bool.{true}
 use mathlib.Core.List.{List, [], _∷_, _++_, append-nil}
 use native.Mathlib.Omega.{arith}
 use native.Mathlib.Nat.{add-zero, eq-or-lt-of-le}
@@ -15,8 +16,20 @@ use Rattle.layout.specs.declared.outcome.Outcome.{Outcome}
 use Rattle.layout.specs.Words.{Words}
 use Rattle.ducklake.specs.Calls.{Result, Promise}
 use Rattle.call_laws.proofs.Areas.{Fits, fresh-area, request-area}
-use Rattle.call_lists.specs.Calls.{Asked, fresh, asks, performAsked}
-use Rattle.call_lists.specs.Playing.{Played, left, resultOn, toldSize, toldWords, Tells, asked, played, result, SessionPromise}
+use Rattle.call_lists.specs.declared.record.CallRecord.{CallRecord}
+use Rattle.call_lists.specs.Records.{callSize, callAt}
+use Rattle.call_lists.specs.Calls.{Asked, fresh, asks, performAsked, spansFit}
+use Rattle.call_lists.specs.Playing.{Played, left, resultOn, toldSize, toldWords, Tells, callsPlayed, asked, played, result, SessionPromise}
+use Rattle.call_lists.proofs.KindLaws.{asked-spans}
+use Rattle.call_lists.proofs.Leading.{counted-asks}
+
+-- the spans of a record that is played lie within their runs
+pub played-spans : (calls lists names told : List ℕ) {n i : ℕ} → n ≡ callsPlayed calls lists names told → i < n → {r : CallRecord} → r ≡ callAt calls i
+    → spansFit (length lists) (length names) r ≡ true
+unfolding callsPlayed
+played-spans calls lists names told {i} e h q =
+    ap (spansFit (length lists) (length names)) q
+    ∙ asked-spans (length lists) (length names) i (callAt calls i) (counted-asks calls (length lists) (length names) (min (length calls / callSize) (length told / toldSize)) i (subst (λ (m : ℕ). i < m) e h))
 
 -- an answer has room in its area
 pub asked-area : (x : Asked) (w : Words) (c : Counts) (area : List ℕ) → Fits (performAsked x w c area) area

@@ -3,7 +3,7 @@ ghost use mathlib.Core.Bool.{true};
 ghost use Prim.Native.Nat.{_+_, _*_, _≤_};
 ghost use lib.ListN.{length};
 ghost use Rattle.call_lists.specs.Records.{callSize, callAt};
-ghost use Rattle.call_lists.specs.Calls.{isRequestKind, spanFits, spansFit, isAsked, callCount};
+ghost use Rattle.call_lists.specs.Calls.{isReading, isRequestKind, spanFits, spansFit, isAsked, callCount};
 use layout::number::CatalogId;
 use layout::number::FileId;
 use layout::number::SnapshotId;
@@ -133,6 +133,13 @@ pub fn call_at(w: &[u64], i: usize) -> CallRecord
             length: w[k + CallRecord::NAMES_LENGTH] as usize,
         },
     }
+}
+
+// Whether a reading is of that kind.
+pub fn is_reading(kind: u64) -> bool
+    ensures { λ r. ⌜ r ≡ isReading kind ⌝ }
+{
+    (LISTED_SCHEMAS <= kind) & (kind <= COPIED_FILE)
 }
 
 // Whether a call or a reading is of that kind, Fresh apart.

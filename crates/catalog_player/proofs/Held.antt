@@ -1,18 +1,18 @@
--- What the loop over a list of calls holds, before the first, and from call to call.
+-- What the loop over a list holds, before the first record, and from record to record.
 use Prim.Native.Nat.{ℕ, _+_, _-_, _*_, _≤_, _<_}
 use mathlib.Core.Path.{_≡_, refl, ap, ap₂, _∙_}
 use mathlib.Core.List.{List, [], _∷_, map}
 use native.Mathlib.Omega.{arith}
 use lib.ListN.{length, getD, take, drop}
 use borrow.Rule.Slice.PartMut.{putMid, same-len-mid}
-use Rattle.lists.specs.Runs.{at, overwrite}
+use Rattle.lists.specs.Runs.{overwrite}
 use Rattle.layout.specs.declared.outcome.Counts.{Counts}
 use Rattle.layout.specs.declared.outcome.Outcome.{Outcome}
 use Rattle.layout.specs.Words.{Words}
-use Rattle.ducklake.specs.Calls.{perform, Promise}
+use Rattle.ducklake.specs.Calls.{Promise}
 use Rattle.call_lists.specs.declared.record.CallRecord.{CallRecord}
-use Rattle.call_lists.specs.Records.{callLayout}
-use Rattle.call_lists.specs.Calls.{callOf}
+use Rattle.call_lists.specs.Records.{callAt}
+use Rattle.call_lists.specs.Calls.{performAsked, askedOf}
 use Rattle.call_lists.specs.Playing.{toldSize, toldWords}
 use Rattle.call_lists.proofs.KindLaws.{promise-of}
 use Rattle.call_lists.proofs.Sessions.{Playing, playing-start, playing-next}
@@ -59,7 +59,7 @@ pub lengths-kept : (w w′ : Words) (R : Type 0) → Kept (lengths w) (lengths w
 lengths-kept w w′ R k = record { same = kept-all (lengths w) (lengths w′) R refl k }
 
 module _ (calls lists names : List ℕ) (w : Words) (c : Counts) (a t : List ℕ) where
-  -- after i of n calls
+  -- after i of n records
   pub record Held (n i : ℕ) (w′ : Words) (c′ : Counts) (a′ : List ℕ) (k : ℕ) (t′ : List ℕ) : Type 0 where
     pub some : i ≤ n
     pub runs : SameLengths w w′
@@ -71,8 +71,8 @@ module _ (calls lists names : List ℕ) (w : Words) (c : Counts) (a t : List ℕ
   held-start n = record { some = omega arith; runs = record { same = refl }; area = refl; told = refl; playing = playing-start calls lists names w c a t }
 
   pub held-next : {n i : ℕ} {w₁ : Words} {c₁ : Counts} {a₁ : List ℕ} {k : ℕ} {t₁ : List ℕ} → Held n i w₁ c₁ a₁ k t₁ → i < n → toldSize * n ≤ length t
-      → {r : CallRecord} → r ≡ at callLayout calls i → {o : Outcome} {w₂ : Words} {b t₂ : List ℕ}
-      → Promise (perform (callOf lists names r) w₁ c₁ (take (length a₁ - k) (drop k a₁))) o w₂ b → SameLengths w₁ w₂
+      → {r : CallRecord} → r ≡ callAt calls i → {o : Outcome} {w₂ : Words} {b t₂ : List ℕ}
+      → Promise (performAsked (askedOf lists names r) w₁ c₁ (take (length a₁ - k) (drop k a₁))) o w₂ b → SameLengths w₁ w₂
       → length b ≡ length (take (length a₁ - k) (drop k a₁)) → t₂ ≡ overwrite t₁ (toldSize * i) (toldWords o) → length t₂ ≡ length t₁
       → Held n (i + 1) w₂ (o .counts) (putMid k (length a₁ - k) a₁ b) (k + o .length) t₂
   held-next {n} {i} {w₁} {c₁} {a₁} {k} H l m q {b} p s e u v = record {
@@ -81,5 +81,5 @@ module _ (calls lists names : List ℕ) (w : Words) (c : Counts) (a t : List ℕ
     area = same-len-mid k (length a₁ - k) a₁ b e ∙ H .area;
     told = v ∙ H .told;
     playing = playing-next calls lists names w c a t i (H .playing) (omega (arith, l, m, H .told))
-        (promise-of w₁ c₁ (take (length a₁ - k) (drop k a₁)) (ap (callOf lists names) q) p) e u;
+        (promise-of w₁ c₁ (take (length a₁ - k) (drop k a₁)) (ap (askedOf lists names) q) p) e u;
   }

@@ -1,2 +1,2 @@
-// Plays lists of calls.
+// Plays lists of calls and readings.
 pub mod session;

@@ -15,17 +15,17 @@ use layout::outcome::Counts;
 use refusals::room::smaller;
 use soundness::checked::check;
 
-// How many calls are played.
-fn calls_played(calls: &[u64], told: &[u64]) -> usize
-    ensures { λ r. ⌜ (r ≡ callsPlayed (now (calls .entry)) (now (told .entry))) × (callSize * r ≤ length (now (calls .entry)))
-        × (toldSize * r ≤ length (now (told .entry))) ⌝ }
+// How many records are played.
+fn calls_played(calls: &[u64], lists: &[u64], names: &[u8], told: &[u64]) -> usize
+    ensures { λ r. ⌜ (r ≡ callsPlayed (now (calls .entry)) (now (lists .entry)) (now (names .entry)) (now (told .entry)))
+        × (callSize * r ≤ length (now (calls .entry))) × (toldSize * r ≤ length (now (told .entry))) ⌝ }
 {
     let most = smaller(calls.len() / CallRecord::SIZE, told.len() / TOLD_SIZE);
-    count_calls(calls, most)
+    count_calls(calls, lists.len(), names.len(), most)
 }
 
-// Plays a list of calls, each on what the one before left and with what is left of the answer area, and tells of each its outcome: up to a record that is
-// no call's, as many as can be told. A call is the check of the tables, then the operation.
+// Plays a list of calls and readings, each on what the one before left and with what is left of the answer area, and tells of each its outcome: up to a
+// record that asks for nothing, as many as can be told. The first may be Fresh. Each is the check of the tables, then the operation.
 #[no_mangle]
 pub extern "C" fn catalog_play(
     snapshots: &mut [u64],
@@ -49,11 +49,11 @@ pub extern "C" fn catalog_play(
 ) -> Session
     ensures { λ r. ⌜ SessionPromise (now (calls .entry)) (now (lists .entry)) (now (names .entry))
         (atEntry snapshots schemas «schema_names» tables «table_names» columns «column_names» «data_files» «delete_files» positions statistics scheduled)
-        counts (now (area .entry)) (callsPlayed (now (calls .entry)) (now (told .entry))) (now (told .entry)) r
+        counts (now (area .entry)) (callsPlayed (now (calls .entry)) (now (lists .entry)) (now (names .entry)) (now (told .entry))) (now (told .entry)) r
         (atExit snapshots schemas «schema_names» tables «table_names» columns «column_names» «data_files» «delete_files» positions statistics scheduled)
         (now (area .exit)) (now (told .exit)) ⌝ }
 {
-    let n = calls_played(calls, told);
+    let n = calls_played(calls, lists, names, told);
     let mut held = counts;
     let mut answered: usize = 0;
     let mut i: usize = 0;

@@ -36,9 +36,11 @@ loop-again c =
     let call : tie.After-call-at Inv-loop μ-loop = search in
     let in-loop : tie.In-loop Inv-loop μ-loop = search in
     let start : tie.Start Inv-loop μ-loop = search in
-    let a = start .args in
-    (omega (arith, in-loop .loop-test .taken), looking-next (a .w .now) (a .lists) (a .names) (a .n) (in-loop .before .loop .i) (in-loop .loop-test .taken)
-    (asked .is-asked .ensures ∙ ap (isAsked (a .lists) (a .names) (in-loop .before .loop .i)) (call .call-at .ensures)) (c .if1 .left) (in-loop .before .loop .inv .1))
+    let a = start .args in (
+      omega (arith, in-loop .loop-test .taken),
+      looking-next (a .w .now) (a .lists) (a .names) (a .n) (in-loop .before .loop .i) (in-loop .loop-test .taken)
+          (asked .is-asked .ensures ∙ ap (isAsked (a .lists) (a .names) (in-loop .before .loop .i)) (call .call-at .ensures)) (c .if1 .left) (in-loop .before .loop .inv .1),
+    )
 
 returns-2 : tie.Need-returns-2 Inv-loop μ-loop
 returns-2 c =

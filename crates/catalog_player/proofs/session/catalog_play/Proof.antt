@@ -3,7 +3,8 @@ use borrow.Author.Needs.{needs}
 use Prim.Native.Nat.{_-_}
 use native.Mathlib.Omega.{arith}
 use Rattle.layout.specs.Words.{lent}
-use Rattle.call_lists.proofs.Sessions.{answer-fits, session-whole}
+use Rattle.call_lists.specs.Calls.{askedOf}
+use Rattle.call_lists.proofs.Sessions.{played-spans, answer-fits, session-whole}
 use Rattle.catalog_player.proofs.Held.{Held, held-start, held-next, lengths-kept, as-long}
 use Rattle.catalog_player.proofs.session.catalog_play.Statement.{statement}
 use Rattle.catalog_player.proofs.session.catalog_play.Tie as tie
@@ -55,7 +56,11 @@ mul-play c =
 play-requires : tie.Need-play-requires Inv-loop μ-loop
 play-requires c κs =
     let check : tie.After-check Inv-loop μ-loop = search in
-    check .check .ensures
+    let call : tie.After-call-at Inv-loop μ-loop = called check in
+    let in-loop : tie.In-loop Inv-loop μ-loop = search in
+    let counted : tie.After-calls-played Inv-loop μ-loop = search in
+    let a = begun counted .args in
+    (check .check .ensures, played-spans (a .calls .now) (a .lists .now) (a .names .now) (a .told .now) (counted .calls-played .ensures .0) (in-loop .loop-test .taken) (call .call-at .ensures))
 
 write-outcome-requires : tie.Need-write-outcome-requires Inv-loop μ-loop
 write-outcome-requires c κs =
@@ -72,7 +77,7 @@ add-answered c =
     let call : tie.After-call-at Inv-loop μ-loop = called (checked play) in
     let head : tie.At-loop Inv-loop μ-loop = search in
     let counted : tie.After-calls-played Inv-loop μ-loop = search in
-    omega (arith, answer-fits _ _ _ (head .loop .area) (head .loop .answered) (head .loop .inv .playing .room) (play .play .ensures), head .loop .inv .area, begun counted .good)
+    omega (arith, answer-fits (askedOf _ _ _) _ _ (head .loop .area) (head .loop .answered) (head .loop .inv .playing .room) (play .play .ensures), head .loop .inv .area, begun counted .good)
 
 add-i : tie.Need-add-i Inv-loop μ-loop
 add-i c =
