@@ -31,14 +31,18 @@ use Rattle.call_lists.proofs.Leading.{counted-asks}
 use Rattle.call_lists.proofs.Answers.{area-left, answer-left, starts}
 
 -- the tables and the record after a request are those that came back
-after-leaves : (S : State) (q : Request) (r : Result) → (after S q r .words ≡ r .words) × (after S q r .counts ≡ r .counts)
+pub after-leaves : (S : State) (q : Request) (r : Result) → (after S q r .words ≡ r .words) × (after S q r .counts ≡ r .counts)
 after-leaves S (calls k) r = if (eqb (r .number) accepted) (λ e. rw e (refl, refl)) (λ e. rw e (refl, refl))
 after-leaves S (reads q) r = (refl, refl)
 after-leaves S (looksUp file) r = (refl, refl)
 
-after-append : (S : State) (xs ys : List Observation) → afterAll S (xs ++ ys) ≡ afterAll (afterAll S xs) ys
+pub after-append : (S : State) (xs ys : List Observation) → afterAll S (xs ++ ys) ≡ afterAll (afterAll S xs) ys
 after-append S [] ys = refl
 after-append S (x ∷ xs) ys = after-append _ xs ys
+
+pub kept-append : (S : State) (xs ys : List Observation) → Kept S xs → Kept (afterAll S xs) ys → Kept S (xs ++ ys)
+kept-append S [] ys p q = q
+kept-append S (x ∷ xs) ys p q = (p .0, kept-append _ xs ys (p .1) q)
 
 module _ (calls lists names : List ℕ) (w : Words) (c : Counts) (a t : List ℕ) {s : Session} {w′ : Words} {a′ t′ : List ℕ}
     (P : SessionPromise calls lists names w c a (callsPlayed calls lists names t) t s w′ a′ t′) where
@@ -92,8 +96,18 @@ module _ (calls lists names : List ℕ) (w : Words) (c : Counts) (a t : List ℕ
       let e : suc i + n ≡ i + suc n = omega arith in
       ((kept-one S i (omega (arith, h)) f p q, r .0), r .1 ∙ ap (λ j. at j .words) e, r .2 ∙ ap (λ j. at j .counts) e)
 
+  -- its answer stands in the area that is left
+  answer-is : (i : ℕ) → i < count → take (lengthTold t′ i) (saw i .areaLeft) ≡ answerAt t′ a′ i .words
+  answer-is i h =
+      let l = P .told i h .length in
+      let b = starts calls lists names w c a t′ count (P .told) i (omega (arith, h)) in
+      ap (λ m. take m (saw i .areaLeft)) l
+      ∙ (sym (answer-left calls lists names w c a i count h)
+      ∙ (ap₂ (λ m k. take m (drop k (at count .area))) (sym l) (sym b)
+      ∙ ap (λ x. take (lengthTold t′ i) (drop (answerStart t′ i) x)) (sym (P .area))))
+
   -- a list that does not begin with Fresh goes on from where a history has come to
-  pub list-kept : (S : State) → S .words ≡ w → S .counts ≡ c → (callAt calls 0 .kind ≡ madeFresh → ⊥) → ListKept calls lists names w c a t′ S count s w′
+  pub list-kept : (S : State) → S .words ≡ w → S .counts ≡ c → (callAt calls 0 .kind ≡ madeFresh → ⊥) → ListKept calls lists names w c a t′ S count s w′ a′
   unfolding played
   list-kept S p q f =
       let r = kept-from S 0 count (omega arith) (λ e. f) p q in
@@ -102,6 +116,7 @@ module _ (calls lists names : List ℕ) (w : Words) (c : Counts) (a t : List ℕ
         kept = r .0;
         words = r .1 ∙ (ap (λ j. at j .words) e ∙ sym (P .words));
         counts = r .2 ∙ (ap (λ j. at j .counts) e ∙ sym (P .counts));
+        answers = answer-is;
       }
 
   -- a list that begins with Fresh, and n records behind it
@@ -148,17 +163,10 @@ module _ (calls lists names : List ℕ) (w : Words) (c : Counts) (a t : List ℕ
     whole : (i : ℕ) → i ≤ n → Seen (state i) (state i)
     whole i h = subst (λ (k : ℕ). Seen (state i) (state k)) (add-zero i) (both-claims i 0 (omega (arith, h)) .0)
 
-    answer-is : (i : ℕ) → i < n → take (lengthTold t′ (suc i)) (saw (suc i) .areaLeft) ≡ answerAt t′ a′ (suc i) .words
-    answer-is i h =
-        let l = P .told (suc i) (omega (arith, h, all)) .length in
-        let b = starts calls lists names w c a t′ count (P .told) (suc i) (omega (arith, h, all)) in
-        ap (λ m. take m (saw (suc i) .areaLeft)) l
-        ∙ (sym (answer-left calls lists names w c a (suc i) count (omega (arith, h, all)))
-        ∙ (ap₂ (λ m k. take m (drop k (at count .area))) (sym l) (sym b)
-        ∙ ap (λ x. take (lengthTold t′ (suc i)) (drop (answerStart t′ (suc i)) x)) (sym (P .area))))
-
     pub list-claim : ListClaim calls lists names w c a t′ n s w′ a′
     list-claim = record {
+      begun = begun;
+      kept = come n (omega arith) .0;
       words = come n (omega arith) .1 ∙ (ap (λ j. at j .words) (sym all) ∙ sym (P .words));
       counts = come n (omega arith) .2 ∙ (ap (λ j. at j .counts) (sym all) ∙ sym (P .counts));
       seen = λ i k h. both-claims i k h .0;
@@ -166,7 +174,7 @@ module _ (calls lists names : List ℕ) (w : Words) (c : Counts) (a t : List ℕ
       reading = read;
       readingsStay = stay;
       rowsAsJournaled = rows;
-      answers = answer-is;
+      answers = λ i h. answer-is i (omega (arith, h, all));
     }
       where
         read : (i s : ℕ) (q : Query) → i < n → asks-for (suc i) ≡ reads (queryAt s q) → (numberTold t′ (suc i) ≡ shortAnswerArea → ⊥)
@@ -182,7 +190,7 @@ module _ (calls lists names : List ℕ) (w : Words) (c : Counts) (a t : List ℕ
                 kept = subst (λ (r : Request). Promise (performRequest r (state i .words) (state i .counts) (left (at (suc i)))) (saw (suc i) .outcome) (saw (suc i) .words) (saw (suc i) .areaLeft)) e k;
                 room = f;
               },
-              λ j. record { number = numberTold t′ (suc i); words = answer-is i h j },
+              λ j. record { number = numberTold t′ (suc i); words = answer-is (suc i) (omega (arith, h, all)) j },
             )
 
         stay : (i k s : ℕ) (q : Query) → i + k < n → asks-for (suc i) ≡ reads (queryAt s q) → asks-for (suc (i + k)) ≡ reads (queryAt s q)

@@ -10,7 +10,7 @@ use Rattle.layout.specs.declared.outcome.Outcome.{Outcome}
 use Rattle.layout.specs.Words.{Words, load}
 use Rattle.ducklake.specs.Refusals.{accepted, shortAnswerArea, idOfTable, noSuchId, refuseUnless}
 use Rattle.ducklake.specs.Readings.{Query}
-use Rattle.ducklake.specs.Calls.{queryAt}
+use Rattle.ducklake.specs.Calls.{performFresh, queryAt, Promise}
 use Rattle.ducklake.specs.Journal.{TableRows}
 use Rattle.ducklake.specs.Claim.{State, isRetained, Answer}
 use Rattle.ducklake.specs.Observed.{Request, reads, Observation, afterAll, Kept, started, Reads, given, Seen, SeenSinceMade}
@@ -62,10 +62,12 @@ module _ (calls lists names : List ℕ) (w : Words) (c : Counts) (a t′ : List 
   observations i n = map observation (range i n)
 
   -- A list of n records in a history that has come to S: it goes on from there, each request having kept its promise, to what the list leaves
-  pub record ListKept (S : State) (n : ℕ) (s : Session) (w′ : Words) : Type 0 where
+  pub record ListKept (S : State) (n : ℕ) (s : Session) (w′ : Words) (a′ : List ℕ) : Type 0 where
     pub kept : Kept S (observations 0 n)
     pub words : afterAll S (observations 0 n) .words ≡ w′
     pub counts : afterAll S (observations 0 n) .counts ≡ s .counts
+    -- each answer stands in the area as it was given
+    pub answers : (i : ℕ) → i < n → take (lengthTold t′ i) (observation i .areaLeft) ≡ answerAt t′ a′ i .words
 
   -- A list whose first record is Fresh, accepted, and n records behind it: the state that Fresh left, and that after i of these
   abbrev pub stateMade : State
@@ -75,7 +77,9 @@ module _ (calls lists names : List ℕ) (w : Words) (c : Counts) (a t′ : List 
   stateAfter i = afterAll stateMade (observations 1 i)
 
   pub record ListClaim (n : ℕ) (s : Session) (w′ : Words) (a′ : List ℕ) : Type 0 where
-    -- what the list leaves is the last of these states
+    -- Fresh kept its promise, and so did each behind it; what the list leaves is the last of these states
+    pub begun : Promise (performFresh (callAt calls 0 .time) w c a) (outcomeTold 0) (playedBy 1 .words) (observation 0 .areaLeft)
+    pub kept : Kept stateMade (observations 1 n)
     pub words : stateAfter n .words ≡ w′
     pub counts : stateAfter n .counts ≡ s .counts
     -- demand 3 of any two of them, and since each snapshot was made
@@ -99,4 +103,4 @@ module _ (calls lists names : List ℕ) (w : Words) (c : Counts) (a t′ : List 
           words = cond (p .present) (p .rows) [];
         })
     -- what a cleanup among them handed out, and any other answer, stands in the area as it was given
-    pub answers : (i : ℕ) → i < n → take (lengthTold t′ (suc i)) (observation (suc i) .areaLeft) ≡ answerAt t′ a′ (suc i) .words
+    pub answers : (i : ℕ) → i ≤ n → take (lengthTold t′ i) (observation i .areaLeft) ≡ answerAt t′ a′ i .words

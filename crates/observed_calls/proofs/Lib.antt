@@ -1,1 +1,6 @@
-pub mod Kept
+pub mod Contracts
+pub mod Calls
+pub mod Readings
+pub mod Files
+pub mod Lists
+pub mod Histories
