@@ -4,3 +4,4 @@ pub mod KindLaws
 pub mod Sessions
 pub mod Answers
 pub mod DemandThree
+pub mod Cases
