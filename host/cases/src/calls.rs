@@ -89,7 +89,9 @@ fn make(call: &Call, lent: &mut Lending) -> Option<Outcome> {
         codes::LIST_COLUMNS => lent.read(|t, c, area| raw::list_columns(t, c, snapshot, CatalogId(word(1)), area)),
         codes::TABLE_BY_NAME => lent.read(|t, c, area| raw::table_by_name(t, c, snapshot, CatalogId(word(1)), &bytes_of(rest(2)), area)),
         codes::LIST_FILES => lent.read(|t, c, area| raw::list_files(t, c, snapshot, CatalogId(word(1)), area)),
-        codes::LIST_FILTERED_FILES => lent.read(|t, c, area| raw::list_filtered_files(t, c, snapshot, CatalogId(word(1)), word(2), word(3) as i64, area)),
+        codes::LIST_FILTERED_FILES => {
+            lent.read(|t, c, area| raw::list_filtered_files(t, c, snapshot, CatalogId(word(1)), word(2), word(3) as i64, area))
+        }
         codes::LIST_ROWS => lent.read(|t, c, area| raw::list_rows(t, c, snapshot, CatalogId(word(1)), area)),
         codes::SNAPSHOT_BY_TIME => lent.read(|t, c, area| raw::snapshot_by_time(t, c, time, area)),
         codes::COPY_FILE => lent.read(|t, c, area| raw::copy_file(t, c, FileId(word(0)), area)),
