@@ -51,27 +51,19 @@ fn write_delete_path<'a>(
     data_files: &'a [u64],
     delete_files: &'a [u64],
     counts: Counts,
-    id: u64,
+    id: FileId,
     text: &mut [u8],
     at: usize,
 ) -> usize
     requires { ⌜ FilesLent checked (now «data_files») (now «delete_files») counts
-        × ((l : FilesLent checked (now «data_files») (now «delete_files») counts) → Room (now text) at (deletePathOf (l .words) counts id)) ⌝ }
+        × ((l : FilesLent checked (now «data_files») (now «delete_files») counts) → Room (now text) at (deletePathOf (l .words) counts (id .0))) ⌝ }
     ensures { λ r. ⌜ ((l : FilesLent checked (now («data_files» .entry)) (now («delete_files» .entry)) counts)
-        → Written (now (text .entry)) at (deletePathOf (l .words) counts id) (now (text .exit)) r) ⌝ }
+        → Written (now (text .entry)) at (deletePathOf (l .words) counts (id .0)) (now (text .exit)) r) ⌝ }
 {
-    if id == ABSENT {
+    if id.0 == ABSENT {
         return at;
     }
-    write_file_path(
-        checked,
-        data_files,
-        delete_files,
-        counts,
-        FileId(id),
-        text,
-        at,
-    )
+    write_file_path(checked, data_files, delete_files, counts, id, text, at)
 }
 
 // "path of the data file, comma, path of the delete file or nothing", and LF
@@ -81,15 +73,15 @@ fn write_line<'a>(
     delete_files: &'a [u64],
     counts: Counts,
     data_file: FileId,
-    delete_file: u64,
+    delete_file: FileId,
     text: &mut [u8],
     at: usize,
 ) -> usize
     requires { ⌜ FilesLent checked (now «data_files») (now «delete_files») counts
         × ((l : FilesLent checked (now «data_files») (now «delete_files») counts)
-        → Room (now text) at (line (l .words) counts («data_file» .0) «delete_file»)) ⌝ }
+        → Room (now text) at (line (l .words) counts («data_file» .0) («delete_file» .0))) ⌝ }
     ensures { λ r. ⌜ ((l : FilesLent checked (now («data_files» .entry)) (now («delete_files» .entry)) counts)
-        → Written (now (text .entry)) at (line (l .words) counts («data_file» .0) «delete_file») (now (text .exit)) r) ⌝ }
+        → Written (now (text .entry)) at (line (l .words) counts («data_file» .0) («delete_file» .0)) (now (text .exit)) r) ⌝ }
 {
     let comma = write_file_path(
         checked,
@@ -132,7 +124,7 @@ fn write_lines<'a>(
     let mut k: usize = 0;
     while k + 1 < listed.len() {
         let data_file = FileId(listed[k]);
-        let delete_file = listed[k + 1];
+        let delete_file = FileId(listed[k + 1]);
         end = write_line(
             checked,
             data_files,

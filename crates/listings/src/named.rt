@@ -79,18 +79,17 @@ fn named_table_id(
     schema: CatalogId,
     name: &[u8],
     s: SnapshotId,
-) -> u64
+) -> CatalogId
     requires { ⌜ TablesWithNames (now tables) (now names) n ⌝ }
     requires { ⌜ nonEmpty (tablesNamed (tablesIn (now tables) (now names) n) (s .0) (schema .0) (now name)) ≡ true ⌝ }
     ensures { λ r. ⌜ take 1 (map (λ t. t .id) (tablesNamed (tablesIn (now (tables .entry)) (now (names .entry)) n) (s .0) (schema .0) (now (name .entry))))
-        ≡ r ∷ [] ⌝ }
+        ≡ r .0 ∷ [] ⌝ }
 {
     let found = find_named_table(tables, names, n, schema, name, s);
     if let Found::At(i) = found {
-        let id = table_id(tables, i);
-        return id.0;
+        return table_id(tables, i);
     }
-    0
+    CatalogId(0)
 }
 
 // The number of a reading of a table by name, before its answer's length is known. "A badly formed name in a lookup gives 6."
@@ -159,7 +158,7 @@ pub fn find_table_by_name(
         };
     }
     let id = named_table_id(tables, names, counts.tables, schema, name, s);
-    let answer = answer_one(id, area);
+    let answer = answer_one(id.0, area);
     Outcome {
         number: answer.number,
         place: 0,

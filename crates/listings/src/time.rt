@@ -7,6 +7,7 @@ ghost use Rattle.ducklake.specs.Calls.{byTime, performReading, Promise};
 ghost use Rattle.lookup.specs.Order.{SnapshotsById, SnapshotsByTime};
 ghost use Rattle.refusals.specs.Checked.{unanswered};
 ghost use Rattle.listings.specs.Lent.{SnapshotsLent};
+use layout::number::SnapshotId;
 use layout::outcome::ACCEPTED;
 use layout::outcome::Counts;
 use layout::outcome::NO_SNAPSHOT_BY_THEN;
@@ -32,17 +33,16 @@ fn is_snapshot_by(snapshots: &[u64], n: usize, t: u64) -> bool
 }
 
 // The id of the latest one, where there is one.
-fn latest_id_by(snapshots: &[u64], n: usize, t: u64) -> u64
+fn latest_id_by(snapshots: &[u64], n: usize, t: u64) -> SnapshotId
     requires { ⌜ SnapshotsById (now snapshots) n × SnapshotsByTime (now snapshots) n ⌝ }
     requires { ⌜ nonEmpty (snapshotsByTime (snapshotsIn (now snapshots) n) t) ≡ true ⌝ }
-    ensures { λ r. ⌜ r ≡ highest (snapshotsByTime (snapshotsIn (now (snapshots .entry)) n) t) ⌝ }
+    ensures { λ r. ⌜ r .0 ≡ highest (snapshotsByTime (snapshotsIn (now (snapshots .entry)) n) t) ⌝ }
 {
     let found = latest_by(snapshots, n, t);
     if let Found::At(i) = found {
-        let id = snapshot_id(snapshots, i);
-        return id.0;
+        return snapshot_id(snapshots, i);
     }
-    0
+    SnapshotId(0)
 }
 
 // The number of a reading by time, before its answer's length is known.
@@ -81,7 +81,7 @@ pub fn find_snapshot_by_time(
         };
     }
     let id = latest_id_by(snapshots, counts.snapshots, t);
-    let answer = answer_one(id, area);
+    let answer = answer_one(id.0, area);
     Outcome {
         number: answer.number,
         place: 0,

@@ -17,6 +17,7 @@ use crate::filter::Filter;
 use crate::filter::file_passes;
 use layout::number::ABSENT;
 use layout::number::CatalogId;
+use layout::number::FileId;
 use layout::number::SnapshotId;
 use layout::number::TABLE_LIMIT;
 use layout::outcome::ACCEPTED;
@@ -95,15 +96,14 @@ fn count_files(
 }
 
 // The id of the delete file at a place counted from 1, ABSENT for 0.
-fn delete_id(delete_files: &[u64], place: usize) -> u64
+fn delete_id(delete_files: &[u64], place: usize) -> FileId
     requires { ⌜ deleteFileSize * place ≤ length (now «delete_files») ⌝ }
-    ensures { λ r. ⌜ r ≡ deleteIdAt (now («delete_files» .entry)) place ⌝ }
+    ensures { λ r. ⌜ r .0 ≡ deleteIdAt (now («delete_files» .entry)) place ⌝ }
 {
     if place == 0 {
-        return ABSENT;
+        return FileId(ABSENT);
     }
-    let id = delete_file_id(delete_files, place - 1);
-    id.0
+    delete_file_id(delete_files, place - 1)
 }
 
 // The two words of a file, from the word k of the answer area on.
@@ -122,7 +122,8 @@ fn write_listed(
 {
     let id = data_file_id(data_files, i);
     area[k] = id.0;
-    area[k + 1] = delete_id(delete_files, place);
+    let deletion = delete_id(delete_files, place);
+    area[k + 1] = deletion.0;
 }
 
 // The files that are read, each with its delete file, at the front of the answer area.
