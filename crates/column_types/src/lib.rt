@@ -1,9 +1,12 @@
 // Column types, and words as signed values.
 ghost use mathlib.Core.Path.{_≡_};
-ghost use Rattle.layout.specs.Types.{signed, isType, inType, boundAtMost};
+ghost use lib.Dec.{eqb};
+ghost use Rattle.lists.specs.Lists.{place};
+ghost use Rattle.layout.specs.Types.{signed, types, isType, inType, boundAtMost};
 use layout::value::TypeRange;
+use lists::Found;
 
-// How many types there are; their codes count up from 1.
+// How many types there are.
 const TYPE_COUNT: usize = 8;
 
 // int8, int16, int32, int64, uint8, uint16, uint32, boolean.
@@ -50,26 +53,44 @@ const TYPES: [TypeRange; TYPE_COUNT] = [
     },
 ];
 
+// Where the type of that code stands in the table.
+fn find_type(code: u64) -> Found
+    ensures { λ r. ⌜ r ≡ place (λ t. eqb (t .code) code) 0 types ⌝ }
+{
+    let mut i: usize = 0;
+    while i < TYPE_COUNT {
+        let t = TYPES[i];
+        if t.code == code {
+            return Found::At(i);
+        }
+        i += 1;
+    }
+    Found::Nothing
+}
+
 // Whether there is a type of that code.
 pub fn is_type(code: u64) -> bool
     ensures { λ r. ⌜ r ≡ isType code ⌝ }
 {
-    (1 <= code) & (code <= TYPE_COUNT as u64)
+    let found = find_type(code);
+    match found {
+        Found::At(_) => true,
+        Found::Nothing => false,
+    }
 }
 
 // Whether the value is in the range of the type of that code.
 pub fn in_type(code: u64, v: i64) -> bool
     ensures { λ r. ⌜ r ≡ inType code v ⌝ }
 {
-    if code < 1 {
-        return false;
+    let found = find_type(code);
+    match found {
+        Found::At(i) => {
+            let t = TYPES[i];
+            (t.low <= v) & (v <= t.high)
+        }
+        Found::Nothing => false,
     }
-    if (TYPE_COUNT as u64) < code {
-        return false;
-    }
-    let i = (code - 1) as usize;
-    let t = TYPES[i];
-    (t.low <= v) & (v <= t.high)
 }
 
 // The first word that stands for a negative number, and that number.

@@ -3,7 +3,6 @@ pub mod Compaction
 pub mod Counts
 pub mod Flags
 pub mod Insertion
-pub mod Keys
 pub mod Layouts
 pub mod Loops
 pub mod Matches
