@@ -7,7 +7,7 @@ use lib.Dec.{leb, ltb, eqb}
 use lib.ListN.{length, take, replicate}
 use Rattle.lists.specs.Lists.{range, any, filter, has, bit, count}
 use Rattle.layout.specs.declared.outcome.Counts.{Counts}
-use Rattle.layout.specs.Catalog.{absent}
+use Rattle.layout.specs.Catalog.{absent, numberLimit}
 use Rattle.layout.specs.Words.{Words, load}
 use Rattle.ducklake.specs.Liveness.{retained}
 use Rattle.ducklake.specs.Refusals.{accepted, shortAnswerArea, idOfTable, noSuchId, refuseUnless}
@@ -178,13 +178,16 @@ pub record Holds (S S′ : State) : Type 0 where
   -- so "the file list of some table" is that of a table that the journal knows
   pub listedAnywhere : (s table k : ℕ) → isRetained S′ s ≡ true → readingOf (S′ .words) (S′ .counts) s (files table) .number ≡ accepted
       → has k (readingOf (S′ .words) (S′ .counts) s (files table) .words) ≡ true → isListed S′ k ≡ true
+  -- "Ids, next ids, (..) are at most 2^62": the files ever registered are those below the next file id, so none has the number ABSENT
+  pub fileIdsInLimit : S′ .journal .nextFileId ≤ numberLimit
   -- "Every file ever registered is exactly one of these: in the file list of some table at a retained snapshot, scheduled, or handed out by an accepted
-  -- cleanup. None is handed out twice, and none that a retained snapshot lists, then or later." No other number below ABSENT is any of these.
-  pub filesPlaced : (k : ℕ) → ltb k absent ≡ true
-      → bit (isListed S′ k) + count (λ x. eqb (x .file) k) (load (S′ .words) (S′ .counts) .scheduled) + count (λ i. eqb i k) (S′ .handed)
+  -- cleanup. None is handed out twice, and none that a retained snapshot lists, then or later." No other number is any of these. ABSENT is no file where it
+  -- stands in a file list: "the second the delete file's id or ABSENT".
+  pub filesPlaced : (k : ℕ)
+      → bit (isListed S′ k && not (eqb k absent)) + count (λ x. eqb (x .file) k) (load (S′ .words) (S′ .counts) .scheduled) + count (λ i. eqb i k) (S′ .handed)
       ≡ bit (ltb k (S′ .journal .nextFileId))
   -- "the scheduled table holds just these, once each, with u"
-  pub scheduledAsFallen : (k u : ℕ) → ltb k absent ≡ true
+  pub scheduledAsFallen : (k u : ℕ)
       → count (λ x. eqb (x .file) k && eqb (x .start) u) (load (S′ .words) (S′ .counts) .scheduled)
       ≡ count (λ x. eqb (x .file) k && eqb (x .time) u) (S′ .fallen)
 
@@ -216,8 +219,8 @@ SinceMadeClaim =
 
 -- "None is handed out twice, and none that a retained snapshot lists, then or later.": S is a state on the way, S′ the state after further calls
 pub record HandedOut (S S′ : State) : Type 0 where
-  pub once : (k : ℕ) → ltb k absent ≡ true → count (λ i. eqb i k) (S′ .handed) ≤ 1
-  pub notListed : (k : ℕ) → ltb k absent ≡ true → has k (S .handed) ≡ true → isListed S′ k ≡ false
+  pub once : (k : ℕ) → count (λ i. eqb i k) (S′ .handed) ≤ 1
+  pub notListed : (k : ℕ) → has k (S .handed) ≡ true → isListed S′ k ≡ false
 
 abbrev pub HandedOutClaim : Type 0
 HandedOutClaim =

@@ -14,7 +14,6 @@ use Rattle.lists.proofs.Tests.{if, clash, both}
 use Rattle.lists.proofs.Runs.{overwrite-front}
 use Rattle.lists.proofs.Counts.{count-append, count-map, count-and, count-filter, count-range}
 use Rattle.layout.specs.declared.outcome.Counts.{Counts}
-use Rattle.layout.specs.Catalog.{absent}
 use Rattle.layout.specs.Words.{Words, load, store, countsOf, capacity, within, fits}
 use Rattle.layout.proofs.RoundTrip.{load-store, fits-store}
 use Rattle.ducklake.specs.Liveness.{latest, latestId}
@@ -67,7 +66,7 @@ refused-words k w c area h =
 -- what holds after every call
 pub record Inv (S : State) : Type 0 where
   pub tables : Tables S
-  pub fallen : (k u : ℕ) → k < absent → count (entry k u) (catalogOf S .scheduled) ≡ count (λ x. eqb (x .file) k && eqb (x .time) u) (S .fallen)
+  pub fallen : (k u : ℕ) → count (entry k u) (catalogOf S .scheduled) ≡ count (λ x. eqb (x .file) k && eqb (x .time) u) (S .fallen)
   pub files : (k : ℕ) → count (λ i. eqb i k) (fileIds (catalogOf S)) + count (λ i. eqb i k) (S .handed) ≡ bit (ltb k (latest (catalogOf S) .nextFileId))
 
 -- an accepted call
@@ -153,12 +152,12 @@ module _ (S : State) (k : Call) (area : List ℕ) (T : Tables S) (h : eqb (perfo
       count-filter (λ x. eqb (file x) i && eqb (time x) u) (λ x. not (has (file x) hs)) (not (has i hs)) xs
       (λ x m q. ap (λ j. not (has j hs)) (eqb-true (file x) i (both (eqb (file x) i) (eqb (time x) u) q .0)))
 
-  pub next-fallen : ((i u : ℕ) → i < absent → count (entry i u) (catalogOf S .scheduled) ≡ count (λ x. eqb (x .file) i && eqb (x .time) u) (S .fallen))
-      → (i u : ℕ) → i < absent → count (entry i u) (catalogOf next .scheduled)
+  pub next-fallen : ((i u : ℕ) → count (entry i u) (catalogOf S .scheduled) ≡ count (λ x. eqb (x .file) i && eqb (x .time) u) (S .fallen))
+      → (i u : ℕ) → count (entry i u) (catalogOf next .scheduled)
       ≡ count (λ x. eqb (x .file) i && eqb (x .time) u) (filter (λ x. not (has (x .file) (handedBy k made))) (S .fallen) ++ fallenBetween S next (timeOf k))
-  next-fallen o i u l =
+  next-fallen o i u =
       ap (λ C. count (entry i u) (C .scheduled)) next-is
-      ∙ (M .falls .gains i u l
+      ∙ (M .falls .gains i u
       ∙ (ap₂ _+_ stay (sym (gone-count i u))
       ∙ sym (count-append (λ x. eqb (x .file) i && eqb (x .time) u) (filter (λ x. not (has (x .file) (handedBy k made))) (S .fallen)) (fallenBetween S next (timeOf k)))))
     where
@@ -166,7 +165,7 @@ module _ (S : State) (k : Call) (area : List ℕ) (T : Tables S) (h : eqb (perfo
           ≡ count (λ x. eqb (x .file) i && eqb (x .time) u) (filter (λ x. not (has (x .file) (handedBy k made))) (S .fallen))
       stay =
           through (λ x. x .file) (λ x. x .start) i u (fileIdsOf (answer (catalogOf S) k)) (catalogOf S .scheduled)
-          ∙ (ap (λ n. cond (not (has i (fileIdsOf (answer (catalogOf S) k)))) n 0) (o i u l)
+          ∙ (ap (λ n. cond (not (has i (fileIdsOf (answer (catalogOf S) k)))) n 0) (o i u)
           ∙ (sym (through (λ x. x .file) (λ x. x .time) i u (fileIdsOf (answer (catalogOf S) k)) (S .fallen))
           ∙ ap (λ hs. count (λ x. eqb (x .file) i && eqb (x .time) u) (filter (λ x. not (has (x .file) hs)) (S .fallen))) (sym hands)))
 

@@ -6,7 +6,7 @@ use mathlib.Core.List.{List, [], _∷_, map}
 use mathlib.Core.Bool.{Bool, true, false, not, cond, _&&_, _||_}
 use native.Mathlib.Omega.{arith}
 use lib.Dec.{eqb, leb, ltb}
-use borrow.Author.Tests.{eqb-true, eq-eqb, ne-eqb}
+use borrow.Author.Tests.{ltb-true, eqb-true, eq-eqb, ne-eqb}
 use Rattle.lists.specs.Lists.{any, filter, has, bit, count}
 use Rattle.lists.proofs.Tests.{if, either, clash, both, and, same-test, leb-not-ltb}
 use Rattle.lists.proofs.Members.{In, here, next, in-cons, in-nil, Any, in-map, in-map-of, in-filter, in-filter-of, any-in, in-any, reflects-has, pair-two, in-flatMap, in-flatMap-of}
@@ -20,7 +20,7 @@ use Rattle.ducklake.specs.Readings.{files, orAbsent, listed, queryAnswer
 use Rattle.ducklake.specs.Commits.{Change, commit}
 use Rattle.ducklake.specs.Maintenance.{scheduledFile, removed, expire, cleanup, due}
 use Rattle.ducklake.proofs.facts.Facts.{reflects-live, Holds, SucceededBy, Sound}
-use Rattle.ducklake.proofs.commits.Moves.{reflects-small}
+use Rattle.ducklake.proofs.commits.Moves.{reflects-small, latest-small}
 use Rattle.ducklake.proofs.commits.Good.{Good}
 use Rattle.ducklake.proofs.commits.Soundness.{commit-latest, commit-count}
 use Rattle.ducklake.proofs.expiry.Expire.{expire-latest, expire-count}
@@ -41,13 +41,17 @@ fileIds-count C k = simp (count-append, count-map) (omega arith)
 pub live-held : {A B : Type 0} (s : ℕ) (a : Versioned A) (b : Versioned B) → s < absent → Holds a b → live s b ≡ true → live s a ≡ true
 live-held s a b h k l = let r = reflects-live s b h .to l in reflects-live s a h .from (omega (arith, k .after), omega (arith, k .until))
 
+-- the number of a registered file is not ABSENT
+registered-not-absent : {C : Catalog} → Sound C → (k : ℕ) → k < latest C .nextFileId → k ≡ absent → ⊥
+registered-not-absent S k h e = omega (arith, latest-small S .nextFileId)
+
 -- the first number, where all are of one record, and where it is not ABSENT
 only-word : {A : Type 0} (f : A → ℕ) {x : A} (xs : List A) → In x xs → ((y : A) → In y xs → y ≡ x) → orAbsent (map f xs) ≡ f x
 only-word f [] m h = in-nil m
 only-word f (y ∷ ys) m h = ap f (h y (here refl))
 
-first-word : (ks : List ℕ) {k : ℕ} → k < absent → k ≡ orAbsent ks → In k ks
-first-word [] h e = absurd (omega arith)
+first-word : (ks : List ℕ) {k : ℕ} → (k ≡ absent → ⊥) → k ≡ orAbsent ks → In k ks
+first-word [] h e = absurd (h e)
 first-word (k ∷ ks) h e = here e
 
 module _ (C : Catalog) (S : Sound C) where
@@ -97,7 +101,7 @@ module _ (C : Catalog) (S : Sound C) where
       words-listed (d .id) (n .0) (f .0) (n .1) (f .1) (live-held (n .0 .id) (f .0) d h (f .2 .holds) (n .2)) (next (here (sym o)))
 
   -- what is listed has a record
-  listed-of : (k : ℕ) → k < absent → fileListed C k ≡ true → Any (λ f. f .id ≡ k) (C .dataFiles) ⊎ Any (λ d. d .id ≡ k) (C .deleteFiles)
+  listed-of : (k : ℕ) → (k ≡ absent → ⊥) → fileListed C k ≡ true → Any (λ f. f .id ≡ k) (C .dataFiles) ⊎ Any (λ d. d .id ≡ k) (C .deleteFiles)
   unfolding fileListed queryAnswer dataFilesAt listed deleteFilesAt
   listed-of k h l =
       let n = any-in _ (C .snapshots) l in
@@ -111,7 +115,7 @@ module _ (C : Catalog) (S : Sound C) where
       inr (d .0, in-filter-of _ (C .deleteFiles) (d .1) .0, sym (d .2)))
       (λ i. in-nil i))
 
-  pub listed-count : (k : ℕ) → k < absent
+  pub listed-count : (k : ℕ) → (k ≡ absent → ⊥)
       → bit (fileListed C k) ≡ count (λ f. eqb (f .id) k) (C .dataFiles) + count (λ d. eqb (d .id) k) (C .deleteFiles)
   listed-count k h =
       let o = S .files .ids k in
@@ -136,7 +140,7 @@ entry k u x = eqb (x .file) k && eqb (x .start) u
 
 -- what the scheduled table gains by a call of time t that hands out hs
 pub record Falls (C C′ : Catalog) (hs : List ℕ) (t : ℕ) : Type 0 where
-  pub gains : (k u : ℕ) → k < absent → count (entry k u) (C′ .scheduled) ≡ count (entry k u) (filter (λ x. not (has (x .file) hs)) (C .scheduled)) + cond (eqb t u) (bit (falls C C′ k)) 0
+  pub gains : (k u : ℕ) → count (entry k u) (C′ .scheduled) ≡ count (entry k u) (filter (λ x. not (has (x .file) hs)) (C .scheduled)) + cond (eqb t u) (bit (falls C C′ k)) 0
 
 -- the number of records removed, from what is registered, listed and kept: one just if the file falls
 lost-is : (registered listed kept old : Bool) (lost : ℕ) → bit listed ≤ bit old → bit kept + lost + bit old ≡ bit listed + bit registered
@@ -154,15 +158,16 @@ falls-of : (C C′ : Catalog) → Sound C → Sound C′ → (hs : List ℕ) (t 
     → ((k : ℕ) → records C′ k + lost k + bit (ltb k (latest C .nextFileId)) ≡ records C k + bit (ltb k (latest C′ .nextFileId)))
     → ((k u : ℕ) → count (entry k u) (C′ .scheduled) ≡ count (entry k u) (filter (λ x. not (has (x .file) hs)) (C .scheduled)) + cond (eqb t u) (lost k) 0)
     → Falls C C′ hs t
-falls-of C C′ S S′ hs t lost e g = record {
-  gains = λ k u h.
-      rw (
-        leb-not-ltb (latest C .nextFileId) k,
-        lost-is (ltb k (latest C′ .nextFileId)) (fileListed C k) (fileListed C′ k) (ltb k (latest C .nextFileId)) (lost k)
-            (omega (arith, listed-count C S k h, fileIds-count C k, S .files .ids k)) (omega (arith, e k, listed-count C S k h, listed-count C′ S′ k h)),
-      )
-      (g k u);
-}
+falls-of C C′ S S′ hs t lost e g = record { gains = λ k u. rw (lost-are k) (g k u) }
+  where
+    lost-are : (k : ℕ) → bit (falls C C′ k) ≡ lost k
+    lost-are k =
+        if (ltb k (latest C′ .nextFileId))
+        (λ b. let h = registered-not-absent S′ k (ltb-true k (latest C′ .nextFileId) b) in
+        rw (leb-not-ltb (latest C .nextFileId) k)
+        (lost-is (ltb k (latest C′ .nextFileId)) (fileListed C k) (fileListed C′ k) (ltb k (latest C .nextFileId)) (lost k)
+        (omega (arith, listed-count C S k h, fileIds-count C k, S .files .ids k)) (omega (arith, e k, listed-count C S k h, listed-count C′ S′ k h))))
+        (λ b. let z : bit (ltb k (latest C′ .nextFileId)) ≡ 0 = rw b refl in rw b (omega (arith, e k, fileIds-count C k, S .files .ids k)))
 
 nothing-handed : (xs : List Scheduled) → filter (λ x. not (has (x .file) [])) xs ≡ xs
 unfolding any

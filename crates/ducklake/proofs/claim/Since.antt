@@ -1,16 +1,17 @@
 -- Demand 3 in its own words: latest snapshots rise one at a time, so the first state that has s is the one straight after the call that made it; and what was
 -- handed out stays handed out, where a file has one place alone.
-use Prim.Native.Nat.{ℕ, suc, _≤_}
+use Prim.Native.Nat.{ℕ, suc, _≤_, _<_}
 use mathlib.Core.Path.{_≡_, refl, ap, sym, _∙_}
 use mathlib.Core.List.{List, [], _∷_}
-use mathlib.Core.Bool.{true, not}
+use mathlib.Core.Bool.{true, not, _&&_}
 use native.Mathlib.Omega.{arith}
 use lib.Dec.{leb, ltb, eqb}
-use borrow.Author.Tests.{leb-true, leb-false, eq-eqb}
+use borrow.Author.Tests.{leb-true, leb-false, ltb-true, eq-eqb, ne-eqb}
 use Rattle.lists.specs.Lists.{has, bit, count}
 use Rattle.lists.proofs.Tests.{if, both}
 use Rattle.lists.proofs.Members.{reflects-has}
 use Rattle.lists.proofs.Counts.{count-append, count-pos, bit-le}
+use Rattle.layout.specs.Catalog.{absent}
 use Rattle.ducklake.specs.Refusals.{accepted}
 use Rattle.ducklake.specs.Commits.{Commit, createSchema, createTable, insert, delete, dropTable, dropSchema}
 use Rattle.ducklake.specs.Readings.{Query}
@@ -19,7 +20,7 @@ use Rattle.ducklake.specs.Journal.{Journal, journaled, emptyJournal}
 use Rattle.ducklake.specs.Claim.{State, Step, isRetained, readingOf, isListed, handedBy, acceptedStep, step, run, freshState, whenMade, SinceMade, SinceMadeClaim, HandedOutClaim}
 use Rattle.ducklake.proofs.claim.Tables.{retained-is}
 use Rattle.ducklake.proofs.claim.Histories.{Inv, Later, step-inv, run-inv}
-use Rattle.ducklake.proofs.claim.Whole.{fresh-inv, readings-stay, files-placed}
+use Rattle.ducklake.proofs.claim.Whole.{fresh-inv, readings-stay, file-ids-in-limit, files-placed}
 
 -- a snapshot that both states have and the later one retains shows the same in both
 pub stays-from : (S S′ : State) → Inv S → Inv S′ → Later S S′ → (s : ℕ) → s ≤ S .journal .latest → isRetained S′ s ≡ true
@@ -84,11 +85,15 @@ handed-grows S (x ∷ xs) i = omega (arith, step-handed S x i, handed-grows (ste
 
 pub handed-out : HandedOutClaim
 handed-out time w c area f xs ys = record {
-  once = λ k h. omega (arith, files-placed S′ I′ k h, bit-le (ltb k (S′ .journal .nextFileId)));
-  notListed = λ k h m.
+  once = λ k. omega (arith, files-placed S′ I′ k, bit-le (ltb k (S′ .journal .nextFileId)));
+  notListed = λ k m.
       let a : 1 ≤ count (λ j. eqb j k) (S .handed) = count-pos (λ j. eqb j k) (reflects-has k (S .handed) .to m) (eq-eqb k k refl) in
+      let p = files-placed S′ I′ k in
+      let registered : k < S′ .journal .nextFileId = if (ltb k (S′ .journal .nextFileId)) (λ b. ltb-true k _ b)
+      (λ b. let z : bit (ltb k (S′ .journal .nextFileId)) ≡ 0 = rw b refl in absurd (omega (arith, handed-grows S ys k))) in
       if (isListed S′ k)
-      (λ b. let z : bit (isListed S′ k) ≡ 1 = rw b in absurd (omega (arith, handed-grows S ys k, files-placed S′ I′ k h, bit-le (ltb k (S′ .journal .nextFileId)))))
+      (λ b. let z : bit (isListed S′ k && not (eqb k absent)) ≡ 1 = rw (b, ne-eqb k absent (λ e. omega (arith, file-ids-in-limit S′ I′))) in
+      absurd (omega (arith, handed-grows S ys k, bit-le (ltb k (S′ .journal .nextFileId)))))
       (λ b. b);
 }
   where

@@ -1,16 +1,16 @@
 -- Demand 3, proved: a fresh catalogue has what every call keeps, and what every call keeps is the claim.
-use Prim.Native.Nat.{ℕ, _+_}
+use Prim.Native.Nat.{ℕ, _+_, _≤_}
 use mathlib.Core.Path.{_≡_, refl, sym, ap, ap₂, subst, _∙_}
 use mathlib.Core.List.{List, []}
-use mathlib.Core.Bool.{true, false, cond, _&&_, _||_, or-false, and-true, false≢true}
+use mathlib.Core.Bool.{true, false, not, cond, _&&_, _||_, or-false, and-true, and-false, false≢true}
 use native.Mathlib.Omega.{arith}
 use lib.Dec.{leb, ltb, eqb, leb·zero}
-use borrow.Author.Tests.{leb-true, ltb-true, eqb-true, eq-eqb, le-ltb, le-leb}
+use borrow.Author.Tests.{leb-true, eqb-true, eqb-false, eq-eqb, le-ltb, le-leb}
 use Rattle.lists.specs.Lists.{any, last, bit, count}
 use Rattle.lists.proofs.Tests.{if, same-test}
 use Rattle.lists.proofs.Members.{in-nil, all-nil}
 use Rattle.layout.specs.declared.outcome.Counts.{Counts}
-use Rattle.layout.specs.Catalog.{absent, Catalog}
+use Rattle.layout.specs.Catalog.{absent, numberLimit, Catalog}
 use Rattle.layout.specs.Words.{Words, load, store, countsOf, capacity, within, fits}
 use Rattle.layout.proofs.RoundTrip.{load-store, fits-store}
 use Rattle.ducklake.specs.Liveness.{retained, latest, isLive}
@@ -22,6 +22,7 @@ use Rattle.ducklake.specs.Calls.{hasRoom, noCounts, performFresh}
 use Rattle.ducklake.specs.Journal.{emptyJournal}
 use Rattle.ducklake.specs.Claim.{State, isRetained, readingOf, isListed, run, freshState, Holds, Claim}
 use Rattle.ducklake.proofs.facts.Facts.{Sound, reflects-ranges, reflects-rise, reflects-lives, reflects-ascend, reflects-files, reflects-nest, reflects-apart, reflects-deletes, reflects-rows, reflects-statistics, reflects-columnCounts}
+use Rattle.ducklake.proofs.commits.Moves.{latest-small}
 use Rattle.ducklake.proofs.commits.Good.{Chain}
 use Rattle.ducklake.proofs.cases.Sessions.{passes}
 use Rattle.ducklake.proofs.readings.Answers.{numbered, enough-room, no-room, reading-is}
@@ -130,7 +131,7 @@ module _ (time : ℕ) (w : Words) (c : Counts) (area : List ℕ) (h : performFre
   unfolding freshState count
   fresh-inv = record {
     tables = fresh-tables;
-    fallen = λ k u l. ap (λ C. count (entry k u) (C .scheduled)) catalog-is ∙ fresh-fallen k u;
+    fallen = λ k u. ap (λ C. count (entry k u) (C .scheduled)) catalog-is ∙ fresh-fallen k u;
     files = λ k. let a = ap (λ C. count (λ i. eqb i k) (fileIds C)) catalog-is in let b = ap (λ C. bit (ltb k (latest C .nextFileId))) catalog-is in
         omega (arith, fresh-files k);
   }
@@ -165,12 +166,18 @@ module _ (S : State) (I : Inv S) where
       let r = retained-is (I .tables) s ∙ h in
       ap (λ a. a .number) (reading-is (S .words) (S .counts) s (files table) (sound-words (I .tables)) r) ∙ rw (I .tables .journal .pages s r table .present)
 
-  pub files-placed : (k : ℕ) → ltb k absent ≡ true
-      → bit (isListed S k) + count (λ x. eqb (x .file) k) (catalogOf S .scheduled) + count (λ i. eqb i k) (S .handed) ≡ bit (ltb k (S .journal .nextFileId))
-  files-placed k h =
-      let a = ap bit (listed-is S (I .tables) k) in
+  pub file-ids-in-limit : S .journal .nextFileId ≤ numberLimit
+  file-ids-in-limit = omega (arith, I .tables .journal .nextFileId, latest-small (I .tables .sound) .nextFileId)
+
+  pub files-placed : (k : ℕ)
+      → bit (isListed S k && not (eqb k absent)) + count (λ x. eqb (x .file) k) (catalogOf S .scheduled) + count (λ i. eqb i k) (S .handed) ≡ bit (ltb k (S .journal .nextFileId))
+  files-placed k =
       let b = ap (λ n. bit (ltb k n)) (I .tables .journal .nextFileId) in
-      omega (arith, listed-count (catalogOf S) (I .tables .sound) k (ltb-true k absent h), fileIds-count (catalogOf S) k, I .files k)
+      if (eqb k absent)
+      (λ e. let z : bit (ltb k (S .journal .nextFileId)) ≡ 0 = rw (le-ltb k (S .journal .nextFileId) (omega (arith, file-ids-in-limit, eqb-true k absent e))) refl in
+      rw (e, and-false) (omega (arith, fileIds-count (catalogOf S) k, I .files k)))
+      (λ e. let a = ap bit (listed-is S (I .tables) k) in
+      rw (e, and-true) (omega (arith, listed-count (catalogOf S) (I .tables .sound) k (eqb-false k absent e), fileIds-count (catalogOf S) k, I .files k)))
 
 pub claim : Claim
 claim time w c area h xs ys =
@@ -187,6 +194,7 @@ claim time w c area h xs ys =
       rowsAsJournaled = rows-as-journaled S′ I′;
       fileListsAsJournaled = file-lists-as-journaled S′ I′;
       listedAnywhere = listed-anywhere S′ (I′ .tables);
+      fileIdsInLimit = file-ids-in-limit S′ I′;
       filesPlaced = files-placed S′ I′;
-      scheduledAsFallen = λ k u l. I′ .fallen k u (ltb-true k absent l);
+      scheduledAsFallen = I′ .fallen;
     }
