@@ -1,5 +1,6 @@
 // Where a search in words that never fall looks. Any place between its ends would do: these are chosen so that it looks at few.
-ghost use Prim.Native.Nat.{_*_, _≤_, _<_};
+ghost use mathlib.Core.Path.{_≡_};
+ghost use Prim.Native.Nat.{_+_, _-_, _*_, _≤_, _<_, min};
 ghost use lib.ListN.{length};
 use crate::fields::field_at;
 
@@ -34,7 +35,7 @@ pub fn interpolate(w: &[u64], size: usize, at: usize, n: usize, x: u64) -> usize
 }
 
 fn smaller(a: usize, b: usize) -> usize
-    ensures { λ r. ⌜ (r ≤ a) × (r ≤ b) ⌝ }
+    ensures { λ r. ⌜ r ≡ min a b ⌝ }
 {
     if a < b {
         return a;
@@ -43,7 +44,9 @@ fn smaller(a: usize, b: usize) -> usize
 }
 
 // How many numbers lie between two.
-fn between(x: u64, y: u64) -> usize {
+fn between(x: u64, y: u64) -> usize
+    ensures { λ r. ⌜ r ≡ (x - y - 1) + (y - x - 1) ⌝ }
+{
     if x < y {
         return (y - x - 1) as usize;
     }
