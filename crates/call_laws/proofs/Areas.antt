@@ -31,7 +31,7 @@ call-area k w c area =
     (λ e. let l = accepted-call w c (length area) k refl (eqb-true _ _ e) .area in rw e (record { answer = l; area = overwrite-length area 0 _ (omega (arith, l)) }))
     (λ e. rw e (record { answer = omega arith; area = refl }))
 
-reading-area : (r : Reading) (w : Words) (c : Counts) (area : List ℕ) → Fits (performReading r w c area) area
+pub reading-area : (r : Reading) (w : Words) (c : Counts) (area : List ℕ) → Fits (performReading r w c area) area
 unfolding performReading
 reading-area r w c area =
     if (eqb (readingRefusal w c (length area) r) accepted)

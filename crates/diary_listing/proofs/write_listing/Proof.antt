@@ -2,9 +2,9 @@
 use borrow.Author.Needs.{needs}
 use mathlib.Core.Path.{sym}
 use lib.Seq.{length-take-le}
+use Rattle.call_laws.proofs.Areas.{reading-area, outcome-fits}
 use Rattle.file_lookup.proofs.Places as lookup
 use Rattle.scans.proofs.Lent.{files-lent}
-use Rattle.diary_listing.proofs.Answers.{outcome-fits}
 use Rattle.diary_listing.proofs.Lines.{header-room, lines-room, listing-written}
 use Rattle.diary_listing.proofs.write_listing.Statement.{statement}
 use Rattle.diary_listing.proofs.write_listing.Tie as tie
@@ -26,13 +26,13 @@ slice-reshare-prefix-write-lines : tie.Need-slice-reshare-prefix-write-lines
 slice-reshare-prefix-write-lines c =
     let checked : tie.After-check = search in
     let read : tie.After-list-table-files = search in
-    outcome-fits _ _ _ _ (read .list-table-files .ensures (files-lent _ _ (checked .check .ensures))) (read .list-table-files .kept .1 .1 .1 .1 .1 .1 .1 .1 .1 .0)
+    outcome-fits (reading-area _ _ _ _) (read .list-table-files .ensures (files-lent _ _ (checked .check .ensures)))
 
 slice-aggregate-write-lines : tie.Need-slice-aggregate-write-lines
 slice-aggregate-write-lines c =
     let checked : tie.After-check = search in
     let read : tie.After-list-table-files = search in
-    sym (length-take-le _ _ (outcome-fits _ _ _ _ (read .list-table-files .ensures (files-lent _ _ (checked .check .ensures))) (read .list-table-files .kept .1 .1 .1 .1 .1 .1 .1 .1 .1 .0)))
+    sym (length-take-le _ _ (outcome-fits (reading-area _ _ _ _) (read .list-table-files .ensures (files-lent _ _ (checked .check .ensures)))))
 
 write-lines-requires : tie.Need-write-lines-requires
 write-lines-requires c κs =
