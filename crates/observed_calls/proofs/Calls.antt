@@ -84,26 +84,26 @@ drop-table-enters {M} =
     follows drop-table.ended drop-table.clauses drop-table-symbol.routine DropTableEnters (λ 𝓤 H A mem run κs a g r s. fact-mono 𝓤 _ _ (λ p. enters p)) met
 
 -- `catalog_insert`
-abbrev pub InsertCallEnters : Fact insert-call.ended
-InsertCallEnters κs a r s =
+abbrev pub InsertEnters : Fact insert-call.ended
+InsertEnters κs a r s =
     let (counts, (terms, (table, (recordCount, (uuid, (statistics, (area, end))))))) = besides a in
     EntersBy (calls (commitAt terms (insert (table .0) recordCount uuid (now statistics)))) counts a area r s (besides s .1 .1 .1 .1 .1 .1 .0)
 
-pub insert-call-enters : {M : Type 1} → Ensuring {M = M} insert-call.ended insert-call.clauses insert-call-symbol.routine InsertCallEnters
-insert-call-enters {M} =
+pub insert-enters : {M : Type 1} → Ensuring {M = M} insert-call.ended insert-call.clauses insert-call-symbol.routine InsertEnters
+insert-enters {M} =
     let met : insert-call-stated.statement M = insert-call-met.met in
-    follows insert-call.ended insert-call.clauses insert-call-symbol.routine InsertCallEnters (λ 𝓤 H A mem run κs a g r s. fact-mono 𝓤 _ _ (λ p. enters p)) met
+    follows insert-call.ended insert-call.clauses insert-call-symbol.routine InsertEnters (λ 𝓤 H A mem run κs a g r s. fact-mono 𝓤 _ _ (λ p. enters p)) met
 
 -- `catalog_delete`
-abbrev pub DeleteCallEnters : Fact delete-call.ended
-DeleteCallEnters κs a r s =
+abbrev pub DeleteEnters : Fact delete-call.ended
+DeleteEnters κs a r s =
     let (counts, (terms, (dataFile, (uuid, (positions, (area, end)))))) = besides a in
     EntersBy (calls (commitAt terms (delete (dataFile .0) uuid (now positions)))) counts a area r s (besides s .1 .1 .1 .1 .1 .0)
 
-pub delete-call-enters : {M : Type 1} → Ensuring {M = M} delete-call.ended delete-call.clauses delete-call-symbol.routine DeleteCallEnters
-delete-call-enters {M} =
+pub delete-enters : {M : Type 1} → Ensuring {M = M} delete-call.ended delete-call.clauses delete-call-symbol.routine DeleteEnters
+delete-enters {M} =
     let met : delete-call-stated.statement M = delete-call-met.met in
-    follows delete-call.ended delete-call.clauses delete-call-symbol.routine DeleteCallEnters (λ 𝓤 H A mem run κs a g r s. fact-mono 𝓤 _ _ (λ p. enters p)) met
+    follows delete-call.ended delete-call.clauses delete-call-symbol.routine DeleteEnters (λ 𝓤 H A mem run κs a g r s. fact-mono 𝓤 _ _ (λ p. enters p)) met
 
 -- `catalog_expire`
 abbrev pub ExpireEnters : Fact expire.ended
