@@ -29,11 +29,11 @@ static gukoremo_outcome accept(const char *what, gukoremo_outcome given)
     return given;
 }
 
-/* A list of two calls that have to be accepted, by what was told of them. */
-static void accept_both(const char *what, gukoremo_session given, const uint64_t *told)
+/* A list of so many calls and readings that have to be accepted, by what was told of them. */
+static void accept_all(const char *what, size_t count, gukoremo_session given, const uint64_t *told)
 {
     size_t i;
-    if (given.played != 2) {
+    if (given.played != count) {
         fprintf(stderr, "%s: not played\n", what);
         exit(1);
     }
@@ -60,23 +60,36 @@ static void print_path(gukoremo_file_id id)
         low >> 48, low & UINT64_C(0xffffffffffff));
 }
 
+/* a word of the call i in a list, by its name */
+#define CALL(i, word) [(i) * GUKOREMO_CALL_SIZE + GUKOREMO_CALL_##word]
+
 static void play(void)
 {
     static const uint64_t types[] = {GUKOREMO_INT64, 0, GUKOREMO_INT64, 1};
     static const char names[2][GUKOREMO_NAME_SIZE] = {"item", "price"};
     static const uint64_t three[] = {1, 0, 1, 1, 1, 3, 2, 0, 1, 1, 9, 14}, first[] = {0};
-    /* an insert into table 1 and a delete from data file 0 as a list of calls: UUIDs 2 and 3, their arguments 12 words and 1 */
-    static const uint64_t calls[2 * GUKOREMO_CALL_SIZE] = {
-        GUKOREMO_INSERTED_INTO_TABLE, 130, 1, 2, 0, 2, 0, 12, 0, 0, 0, 0, GUKOREMO_DELETED_FROM_TABLE, 140, 0, 0, 0, 3, 12, 1, 0, 0, 0, 0};
+    /* an insert into table 1, its rows at snapshot 3, and a delete from data file 0 as a list of calls; words that are not named are 0 */
+    static const uint64_t calls[3 * GUKOREMO_CALL_SIZE] = {
+        CALL(0, KIND) = GUKOREMO_INSERTED_INTO_TABLE, CALL(0, TIME) = 130, CALL(0, CATALOG) = 1, CALL(0, RECORD_COUNT) = 2, CALL(0, UUID_LOW) = 2,
+        CALL(0, WORDS_START) = 0, CALL(0, WORDS_LENGTH) = 12,
+        CALL(1, KIND) = GUKOREMO_LISTED_ROWS, CALL(1, SNAPSHOT) = 3, CALL(1, CATALOG) = 1,
+        CALL(2, KIND) = GUKOREMO_DELETED_FROM_TABLE, CALL(2, TIME) = 140, CALL(2, FILE) = 0, CALL(2, UUID_LOW) = 3,
+        CALL(2, WORDS_START) = 12, CALL(2, WORDS_LENGTH) = 1};
     static const uint64_t lists[] = {1, 0, 1, 1, 4, 5, 2, 1, 1, 1, 20, 20, 1};
     const gukoremo_catalog_id main_schema = {0}, diary = {1};
     const gukoremo_file_id file = {0};
-    uint64_t told[2 * GUKOREMO_TOLD_SIZE];
+    uint64_t rows[5], told[3 * GUKOREMO_TOLD_SIZE];
+    gukoremo_session given;
 
     accept("Fresh", gukoremo_fresh(&lent, counts, 100));
     accept("create table", gukoremo_create_table(&lent, counts, 110, main_schema, "diary", 5, types, LENGTH(types), (const char *)names, sizeof names));
     accept("insert", gukoremo_insert(&lent, counts, 120, diary, 3, uuid(1), three, LENGTH(three)));
-    accept_both("insert, delete", gukoremo_play(&lent, counts, calls, LENGTH(calls), lists, LENGTH(lists), NULL, 0, NULL, 0, told, LENGTH(told)), told);
+    given = gukoremo_play(&lent, counts, calls, LENGTH(calls), lists, LENGTH(lists), NULL, 0, rows, LENGTH(rows), told, LENGTH(told));
+    accept_all("insert, rows, delete", 3, given, told);
+    if (given.answered != LENGTH(rows) || rows[4] != 4) {
+        fprintf(stderr, "rows: not 0 to 4\n");
+        exit(1);
+    }
     accept("delete", gukoremo_delete(&lent, counts, 150, file, uuid(4), first, LENGTH(first)));
 }
 

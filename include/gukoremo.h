@@ -133,7 +133,7 @@ enum {
 };
 
 /* The words of a column, and of a column's statistics, in an argument that is a list; of a file that a cleanup hands out; of a listed file; of what is told of
-   a call in a list of calls */
+   each in a list of calls */
 enum {
     GUKOREMO_COLUMN_ARGUMENT_SIZE = 2,     /* type, nulls_allowed */
     GUKOREMO_STATISTICS_ARGUMENT_SIZE = 6, /* column id, null_count, has_min, has_max, min, max */
@@ -152,27 +152,42 @@ enum {
     GUKOREMO_DROPPED_TABLE = 7
 };
 
-/* the kinds of the calls in a list of calls that make no snapshot */
+/* The kinds in a list of calls. A commit's is that of its change, above; maintenance and Fresh have kinds of their own, and so has each reading. */
 enum {
     GUKOREMO_EXPIRED_SNAPSHOTS = 100,
-    GUKOREMO_CLEANED_UP = 101
+    GUKOREMO_CLEANED_UP = 101,
+    GUKOREMO_MADE_FRESH = 102, /* the first of its list alone */
+    GUKOREMO_LISTED_SCHEMAS = 200,
+    GUKOREMO_LISTED_TABLES = 201,
+    GUKOREMO_LISTED_COLUMNS = 202,
+    GUKOREMO_FOUND_TABLE_BY_NAME = 203,
+    GUKOREMO_LISTED_FILES = 204,
+    GUKOREMO_LISTED_FILTERED_FILES = 205,
+    GUKOREMO_LISTED_ROWS = 206,
+    GUKOREMO_FOUND_SNAPSHOT_BY_TIME = 207,
+    GUKOREMO_COPIED_FILE = 208
 };
 
-/* A call in a list of calls; it reads the words that it takes. A start and a length are a span: of the words in lists, or of the bytes in names. */
+/* A call or a reading in a list of calls; each reads the words that it takes. A start and a length are a span, of the words in lists or of the bytes in names.
+   Every span has to lie within its run, one that is not taken too; (0, 0) always does. */
 enum {
-    GUKOREMO_CALL_KIND = 0,         /* a commit's is that of its change; expiry and cleanup have the two above */
-    GUKOREMO_CALL_TIME = 1,         /* the time of a commit or an expiry, the t of a cleanup */
-    GUKOREMO_CALL_OBJECT = 2,       /* the schema, the table or the data file */
-    GUKOREMO_CALL_RECORD_COUNT = 3, /* of an insert */
-    GUKOREMO_CALL_UUID_HIGH = 4,    /* of an insert or a delete */
-    GUKOREMO_CALL_UUID_LOW = 5,
-    GUKOREMO_CALL_WORDS_START = 6, /* in lists: columns, statistics, positions or snapshot ids */
-    GUKOREMO_CALL_WORDS_LENGTH = 7,
-    GUKOREMO_CALL_NAME_START = 8, /* in names: the name of a new schema or table */
-    GUKOREMO_CALL_NAME_LENGTH = 9,
-    GUKOREMO_CALL_NAMES_START = 10, /* in names: the name places of a new table's columns */
-    GUKOREMO_CALL_NAMES_LENGTH = 11,
-    GUKOREMO_CALL_SIZE = 12
+    GUKOREMO_CALL_KIND = 0,
+    GUKOREMO_CALL_TIME = 1,         /* of a commit, an expiry or Fresh; the t of a cleanup or of a reading by time */
+    GUKOREMO_CALL_SNAPSHOT = 2,     /* that a reading is at */
+    GUKOREMO_CALL_CATALOG = 3,      /* the schema or the table */
+    GUKOREMO_CALL_FILE = 4,         /* the data file of a delete, the file of a lookup */
+    GUKOREMO_CALL_COLUMN = 5,       /* of a filter */
+    GUKOREMO_CALL_SCALAR = 6,       /* of a filter: a signed number, by its word */
+    GUKOREMO_CALL_RECORD_COUNT = 7, /* of an insert */
+    GUKOREMO_CALL_UUID_HIGH = 8,    /* of an insert or a delete */
+    GUKOREMO_CALL_UUID_LOW = 9,
+    GUKOREMO_CALL_WORDS_START = 10, /* in lists: columns, statistics, positions or snapshot ids */
+    GUKOREMO_CALL_WORDS_LENGTH = 11,
+    GUKOREMO_CALL_NAME_START = 12, /* in names: the name of a new schema or table, or of one that is looked for */
+    GUKOREMO_CALL_NAME_LENGTH = 13,
+    GUKOREMO_CALL_NAMES_START = 14, /* in names: the name places of a new table's columns */
+    GUKOREMO_CALL_NAMES_LENGTH = 15,
+    GUKOREMO_CALL_SIZE = 16
 };
 
 /* "Types" */
@@ -235,7 +250,7 @@ typedef struct {
     gukoremo_counts counts;
 } gukoremo_outcome;
 
-/* What a list of calls gives: how many of them were played, the words of all their answers, the counts to pass next. */
+/* What a list of calls gives: how many of its records were played, the words of all their answers, the counts to pass next. */
 typedef struct {
     size_t played;
     size_t answered;
@@ -546,11 +561,20 @@ static inline gukoremo_outcome gukoremo_cleanup(const gukoremo_tables *runs, guk
     return catalog_cleanup(GUKOREMO_LENT(runs), counts, t, GUKOREMO_WORDS(area, area_length));
 }
 
-/* A list of calls: commits, expiries and cleanups, GUKOREMO_CALL_SIZE words each in calls, their arguments in spans of lists and names. Of a span that leaves
- * its run a call has what is there. Each call is played on what the one before left, whether that was accepted or refused, with what the answers before have
- * left of the area: its answer stands behind theirs, and GUKOREMO_TOLD_SIZE words of told say what it gave. The list ends before a record whose kind is no
- * call's, and where told has no whole place left. Writes what its calls write, and told; words of area and told behind those stay. told overlaps nothing;
- * calls, lists and names may overlap each other. Calls are refused, never the list. */
+/* A list of calls and readings, GUKOREMO_CALL_SIZE words each in calls, their arguments in spans of lists and names. Each is made on what the one before left,
+ * whether that was accepted or refused, with what the answers before have left of the area. Its answer stands right behind theirs, and GUKOREMO_TOLD_SIZE words
+ * of told say what it gave: an answer begins where the lengths told before it add up to. A reading or a cleanup with an answer longer than what is left is
+ * refused with 3, and the list goes on.
+ *
+ * The list ends, and nothing of the rest is played, before a record
+ *   - whose kind is none of those above,
+ *   - that is Fresh and not the first,
+ *   - of which a span leaves its run: start and length add up, with no wrapping, to more than the run has. With less than its record asks for it would be a
+ *     call that nobody asked for;
+ * and where calls has no whole record left, or told no whole place.
+ *
+ * Writes what its calls write, and told; words of area and told behind those stay. told overlaps nothing; calls, lists and names may overlap each other. Calls
+ * and readings are refused, never the list. */
 static inline gukoremo_session gukoremo_play(const gukoremo_tables *runs, gukoremo_counts counts, const uint64_t *calls, size_t calls_length,
     const uint64_t *lists, size_t lists_length, const char *names, size_t names_length, uint64_t *area, size_t area_length, uint64_t *told,
     size_t told_length)

@@ -10,7 +10,7 @@ use crate::{conformance, fuzz, moves, player};
 use gukoremo::outcome::{ALREADY_DELETED, SHORT_ANSWER_AREA};
 use gukoremo::session::{CallRecord, TOLD_SIZE};
 use gukoremo::CallList;
-use second::Outcome;
+use second::{Call, Outcome};
 
 /// Calls of a random list.
 const CALLS: usize = 40;
@@ -23,7 +23,7 @@ const ROOM: usize = 96;
 const FILL: u64 = 5;
 
 /// No call is of these kinds, by turns.
-const UNKNOWN: [u64; 6] = [0, 5, 8, 99, 102, u64::MAX];
+const UNKNOWN: [u64; 8] = [0, 5, 8, 99, 103, 199, 209, u64::MAX];
 
 /// The ways in which a list is bent; it is played as it stands too.
 #[derive(Clone, Copy, PartialEq, Eq)]
@@ -87,7 +87,11 @@ impl Sessions {
         for line in lines {
             match &line {
                 Line::Area { .. } | Line::Given(_) | Line::Sum(_) | Line::Step(Step::Reading(_)) => continue,
-                Line::Step(Step::Call(call)) if push(&mut self.list, call) => {
+                Line::Step(Step::Call(call)) => {
+                    if matches!(call, Call::Fresh { .. }) {
+                        self.end()?;
+                    }
+                    push(&mut self.list, call);
                     if call_at(&self.list, self.list.len() - 1).as_ref() != Some(call) {
                         return Err(format!("the record is another call's than {line}"));
                     }
@@ -119,8 +123,7 @@ impl Sessions {
             let lent = bend(bent, &list, whole.answered, self.lists);
             let found = self.compare(&lent)?;
             self.bent[i] += usize::from(match bent {
-                Bent::ShortTold | Bent::UnknownKind => found.outcomes.len() < list.len(),
-                Bent::LongSpans => (0..list.len()).any(|i| call_at(&lent.list, i) != call_at(&list, i)),
+                Bent::ShortTold | Bent::UnknownKind | Bent::LongSpans => found.outcomes.len() < list.len(),
                 Bent::ShortArea => found.outcomes.iter().any(|outcome| outcome.number == SHORT_ANSWER_AREA),
             });
         }

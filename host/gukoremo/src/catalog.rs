@@ -1,11 +1,13 @@
 //! A catalogue: tables with their counts, and the calls as methods.
 
+use crate::answers::{File, Handed, Listed};
 use crate::list::CallList;
-use crate::number::{CatalogId, FileId, RowId, SnapshotId, ABSENT, HANDED_SIZE};
+use crate::number::{CatalogId, FileId, RowId, SnapshotId, HANDED_SIZE};
 use crate::outcome::{Counts, Outcome, ACCEPTED, SHORT_ANSWER_AREA};
 use crate::raw;
 use crate::record::{DataFileRecord, DeleteFileRecord, SnapshotRecord, Uuid};
 use crate::refusal::Refusal;
+use crate::room;
 use crate::session::TOLD_SIZE;
 use crate::tables::{Lend, Tables, TablesView};
 use crate::unsound::Line;
@@ -15,36 +17,6 @@ use crate::values::{NewColumn, NewStatistics};
 pub struct Catalog<T: Lend> {
     lent: T,
     counts: Counts,
-}
-
-/// A file of a file list, with its delete file at that snapshot.
-#[derive(Clone, Copy, Debug, PartialEq, Eq)]
-pub struct Listed {
-    pub data_file: FileId,
-    pub delete_file: Option<FileId>,
-}
-
-/// A file that a cleanup hands out: nothing shows it any more.
-#[derive(Clone, Copy, Debug, PartialEq, Eq)]
-pub struct Handed {
-    pub file: FileId,
-    pub uuid: Uuid,
-}
-
-/// The record of a file.
-#[derive(Clone, Copy, Debug, PartialEq, Eq)]
-pub enum File {
-    Data(DataFileRecord),
-    Delete(DeleteFileRecord),
-}
-
-impl File {
-    pub fn uuid(&self) -> Uuid {
-        match self {
-            File::Data(file) => file.uuid,
-            File::Delete(file) => file.uuid,
-        }
-    }
 }
 
 impl<T: Lend> Catalog<T> {
@@ -135,38 +107,36 @@ impl<T: Lend> Catalog<T> {
         let scheduled = self.counts.scheduled.min(self.lent.view().scheduled.len());
         let mut area = vec![0; scheduled * HANDED_SIZE];
         let length = self.change(|lent, counts| raw::cleanup(lent, counts, t, &mut area))?.length;
-        Ok(handed(&area[..length]))
+        Ok(Handed::read_all(&area[..length]))
     }
 
     // Lists
 
-    /// Plays a list of calls, each on what the one before left, a refused one too. Of each it gives the files that it handed out, which a cleanup alone
-    /// does, or its refusal; nothing from a record on whose kind is no call's.
-    pub fn play(&mut self, list: &CallList) -> Vec<Result<Vec<Handed>, Refusal>> {
-        let mut area = vec![0; self.most_handed(list) * HANDED_SIZE];
+    /// Plays a list of calls and readings, each on what the one before left, a refused one too. Of each it gives the answer, which a reading or a cleanup
+    /// alone has, or the refusal; nothing from a record on that asks for nothing, as [`crate::session::CallRecord`] says.
+    ///
+    /// The answers lie in the area one behind another. One that is longer than what is left of it is refused with [`SHORT_ANSWER_AREA`], and the list goes
+    /// on; in an area of [`Catalog::room_for`] words none is.
+    pub fn play<'a>(&mut self, list: &CallList, area: &'a mut [u64]) -> Vec<Result<&'a [u64], Refusal>> {
         let mut told = vec![0; list.len() * TOLD_SIZE];
-        let session = raw::play(self.lent.lend(), self.counts, &list.calls, &list.lists, &list.names, &mut area, &mut told);
+        let session = raw::play(self.lent.lend(), self.counts, &list.calls, &list.lists, &list.names, area, &mut told);
         self.counts = session.counts;
-        let mut answers = &area[..];
+        let mut answers: &'a [u64] = area;
         let outcome = |told: &[u64]| {
             let (answer, rest) = answers.split_at(told[2] as usize);
             answers = rest;
             match told[0] {
-                ACCEPTED => Ok(handed(answer)),
+                ACCEPTED => Ok(answer),
                 number => Err(Refusal { number, place: told[1] }),
             }
         };
         told.chunks_exact(TOLD_SIZE).take(session.played).map(outcome).collect()
     }
 
-    /// No more files are handed out than are scheduled or on record before a list and one for each of its calls, for none is handed out twice. A count that
-    /// the tables have no room for is refused whatever the area.
-    fn most_handed(&self, list: &CallList) -> usize {
-        let (view, counts) = (self.lent.view(), self.counts);
-        let scheduled = counts.scheduled.min(view.scheduled.len());
-        let data_files = counts.data_files.min(view.data_files.len());
-        let delete_files = counts.delete_files.min(view.delete_files.len());
-        scheduled + data_files + delete_files + list.len()
+    /// Words of an area in which every answer of a list has room: no reading has more than what is on record before the list and what the calls before it can
+    /// add, and no file is handed out twice.
+    pub fn room_for(&self, list: &CallList) -> usize {
+        room::room_for(list, self.lent.view(), self.counts)
     }
 
     // Readings
@@ -196,13 +166,13 @@ impl<T: Lend> Catalog<T> {
     /// By id.
     pub fn list_files(&self, snapshot: SnapshotId, table: CatalogId) -> Result<Vec<Listed>, Refusal> {
         let words = self.read(|lent, counts, area| raw::list_files(lent, counts, snapshot, table, area))?;
-        Ok(listed(&words))
+        Ok(Listed::read_all(&words))
     }
 
     /// The files that may hold a row with that value in the column, by their statistics.
     pub fn list_filtered_files(&self, snapshot: SnapshotId, table: CatalogId, column: u64, scalar: i64) -> Result<Vec<Listed>, Refusal> {
         let words = self.read(|lent, counts, area| raw::list_filtered_files(lent, counts, snapshot, table, column, scalar, area))?;
-        Ok(listed(&words))
+        Ok(Listed::read_all(&words))
     }
 
     /// The rows of each file after those of the file before.
@@ -263,16 +233,4 @@ impl<T: Lend> Catalog<T> {
             }
         }
     }
-}
-
-/// The words of files that a cleanup hands out.
-fn handed(words: &[u64]) -> Vec<Handed> {
-    let file = |words: &[u64]| Handed { file: FileId(words[0]), uuid: Uuid { high: words[1], low: words[2] } };
-    words.chunks_exact(HANDED_SIZE).map(file).collect()
-}
-
-/// A file list's words, two for a file.
-fn listed(words: &[u64]) -> Vec<Listed> {
-    let delete_file = |word: u64| if word == ABSENT { None } else { Some(FileId(word)) };
-    words.chunks_exact(2).map(|file| Listed { data_file: FileId(file[0]), delete_file: delete_file(file[1]) }).collect()
 }

@@ -1,11 +1,13 @@
 //! A DuckLake 0.3 snapshot catalogue on lent tables, for safe Rust: the compiled calls of the crates `catalog_*`.
 //!
 //! A [`Catalog`] is tables, which it owns ([`OwnedTables`]) or is lent ([`Tables`]), with the counts of what is used in them. Its methods are the calls. Each
-//! takes any content of the tables, and either does what document 01 says or gives a [`Refusal`] and changes nothing. A [`CallList`] is played as one call.
+//! takes any content of the tables, and either does what document 01 says or gives a [`Refusal`] and changes nothing. A [`CallList`] of calls
+//! and readings is played as one call.
 //!
 //! [`raw`] has the same calls with every argument and the whole outcome, answer area and all. All that is unsafe stands there.
 #![deny(unsafe_code)]
 
+mod answers;
 mod catalog;
 /// The lines of 'Sound tables' by number: the source that the proofs are about.
 #[path = "../../../crates/soundness/src/line.rt"]
@@ -22,12 +24,14 @@ pub mod raw;
 #[path = "../../../crates/layout/src/record.rt"]
 pub mod record;
 mod refusal;
+mod room;
 pub mod session;
 mod tables;
 mod unsound;
 mod values;
 
-pub use catalog::{Catalog, File, Handed, Listed};
+pub use answers::{File, Handed, Listed};
+pub use catalog::Catalog;
 pub use list::CallList;
 pub use number::{CatalogId, FileId, RowId, SnapshotId};
 pub use outcome::{Counts, Outcome};

@@ -52,7 +52,7 @@ macro_rules! changes {
     };
 }
 
-/// Calls that play others and tell of each, in a run after the area.
+/// Calls that play others, readings too, and tell of each, in a run after the area.
 macro_rules! plays {
     ($($(#[$doc:meta])* $name:ident($($argument:ident: $type:ty),*) = $symbol:ident($($given:expr => $raw:ty),*);)*) => {
         $(change! {
@@ -147,7 +147,7 @@ changes! {
 }
 
 plays! {
-    /// The records of the calls, by [`crate::session::CallRecord`], and the runs that their spans lie in.
+    /// The records of calls and readings, by [`crate::session::CallRecord`], and the runs that their spans lie in.
     play(calls: &[u64], lists: &[u64], names: &[u8]) = catalog_play(
         calls.as_ptr() => *const u64, calls.len() => usize, lists.as_ptr() => *const u64, lists.len() => usize,
         names.as_ptr() => *const u8, names.len() => usize);

@@ -3,11 +3,12 @@
 use gukoremo::line::{DELETES_LINE, FIELDS_LINE, SNAPSHOTS_LINE, SOUND};
 use gukoremo::outcome::{
     ALREADY_DELETED, BAD_COLUMNS, BAD_NAME, BAD_RECORD_COUNT, EXPIRES_LATEST, NOT_LIVE, NOT_SOUND, NO_ROOM, NO_SNAPSHOT_BY_THEN, SCHEMA_NOT_EMPTY,
+    SHORT_ANSWER_AREA,
 };
-use gukoremo::session::CallRecord;
+use gukoremo::session::{CallRecord, MADE_FRESH};
 use gukoremo::{
-    CallList, Catalog, CatalogId, ColumnType, Counts, File, FileId, Handed, Lend, Listed, NewColumn, NewStatistics, OwnedTables, Refusal, SnapshotId,
-    Uuid,
+    CallList, Catalog, CatalogId, ColumnType, Counts, DataFileRecord, File, FileId, Handed, Lend, Listed, NewColumn, NewStatistics, OwnedTables,
+    Refusal, SnapshotId, Uuid,
 };
 
 const MAIN: CatalogId = CatalogId(0);
@@ -46,15 +47,30 @@ fn play<T: Lend>(tables: T) -> Result<Catalog<T>, Refusal> {
     Ok(catalog)
 }
 
-/// What the session has after Fresh, as a list.
+/// The same as a list, from Fresh on.
 fn session() -> CallList {
-    let mut list = CallList::new();
+    let mut list = CallList::fresh(100);
     list.push_create_table(110, MAIN, "diary", &columns());
     list.push_insert(120, DIARY, 3, uuid(1), &statistics((1, 3), (9, 14), 0));
     list.push_insert(130, DIARY, 2, uuid(2), &statistics((4, 5), (20, 20), 1));
     list.push_delete(140, FileId(0), uuid(3), &[1]);
     list.push_delete(150, FileId(0), uuid(4), &[0]);
     list
+}
+
+/// A catalogue of so much room before any call.
+fn empty(room: Counts) -> Catalog<OwnedTables> {
+    Catalog::resume(OwnedTables::with_room(room), Counts::NONE)
+}
+
+/// What a list gives, with room for every answer.
+fn given<T: Lend>(catalog: &mut Catalog<T>, list: &CallList) -> Vec<Result<Vec<u64>, Refusal>> {
+    let mut area = vec![0; catalog.room_for(list)];
+    catalog.play(list, &mut area).into_iter().map(|answer| answer.map(<[u64]>::to_vec)).collect()
+}
+
+fn refused<V>(number: u64, place: u64) -> Result<V, Refusal> {
+    Err(Refusal { number, place })
 }
 
 fn handed(file: u64, low: u64) -> Handed {
@@ -118,28 +134,117 @@ fn expiry_and_cleanup() {
 
 #[test]
 fn a_list_is_its_calls_one_by_one() {
-    let mut catalog = Catalog::fresh(OwnedTables::with_room(ROOM), 100).unwrap();
-    let mut list = session();
-    assert_eq!(list.len(), 5);
-    // no kind of call: it and the drop are not played
-    list.push(CallRecord::new(5, 150, 0), &[], &[], &[]);
-    list.push_drop_table(150, DIARY);
-    assert_eq!(catalog.play(&list), vec![Ok(vec![]); 5]);
+    let mut catalog = empty(ROOM);
+    let list = session();
+    assert_eq!(list.len(), 6);
+    assert_eq!(given(&mut catalog, &list), vec![Ok(vec![]); 6]);
     assert_eq!(catalog.into_parts(), play(OwnedTables::with_room(ROOM)).unwrap().into_parts());
+}
+
+#[test]
+fn a_list_with_readings() {
+    let mut list = session();
+    for snapshot in 1..=5 {
+        list.push_list_rows(SnapshotId(snapshot), DIARY);
+    }
+    for scalar in [14, 15, 20] {
+        list.push_list_filtered_files(SnapshotId(5), DIARY, 2, scalar);
+    }
+    list.push_list_files(SnapshotId(5), DIARY);
+    list.push_snapshot_by_time(119);
+    list.push_snapshot_by_time(99);
+    list.push_list_schemas(SnapshotId(0));
+    list.push_list_tables(SnapshotId(0), MAIN);
+    list.push_list_tables(SnapshotId(1), MAIN);
+    list.push_list_columns(SnapshotId(5), DIARY);
+    list.push_table_by_name(SnapshotId(5), MAIN, "diary");
+    list.push_table_by_name(SnapshotId(5), MAIN, "Diary");
+    list.push_copy_file(FileId(1));
+    list.push_copy_file(FileId(4));
+    let mut catalog = empty(ROOM);
+    let mut area = vec![0; catalog.room_for(&list)];
+    let given = catalog.play(&list, &mut area)[6..].to_vec();
+    // "M rows at 1: none; M 2: 0 1 2; M 3: 0 to 4; M 4: 0 2 3 4; M 5: 2 3 4."
+    assert_eq!(given[..5], [Ok(&[][..]), Ok(&[0, 1, 2]), Ok(&[0, 1, 2, 3, 4]), Ok(&[0, 2, 3, 4]), Ok(&[2, 3, 4])]);
+    // "M price = 14 at 5: file 0; M 15: none; M 20: file 1."
+    let first = Listed { data_file: FileId(0), delete_file: Some(FileId(3)) };
+    let second = Listed { data_file: FileId(1), delete_file: None };
+    let listed: Vec<Vec<Listed>> = given[5..9].iter().map(|answer| Listed::read_all(answer.unwrap())).collect();
+    assert_eq!(listed, [vec![first], vec![], vec![second], vec![first, second]]);
+    // "M by time 119: 1; 99: refusal 7."
+    assert_eq!(given[9..11], [Ok(&[1][..]), refused(NO_SNAPSHOT_BY_THEN, 0)]);
+    assert_eq!(given[11..17], [Ok(&[0][..]), Ok(&[]), Ok(&[1]), Ok(&[1, 2]), Ok(&[1]), refused(NOT_LIVE, 0)]);
+    // readings change nothing
+    let words = given[17].unwrap();
+    assert_eq!(catalog.copy_file(FileId(1)), Ok(File::Data(DataFileRecord::read(words))));
+    assert_eq!(given[18..], [refused(NOT_LIVE, 0)]);
+    assert_eq!(catalog.into_parts(), play(OwnedTables::with_room(ROOM)).unwrap().into_parts());
+}
+
+#[test]
+fn a_list_ends_before_what_asks_for_nothing() {
+    let before = session().len();
+    let played = |bend: &dyn Fn(&mut CallList)| {
+        let mut list = session();
+        bend(&mut list);
+        list.push_drop_table(160, DIARY);
+        let mut catalog = empty(ROOM);
+        let played = given(&mut catalog, &list).len();
+        assert_eq!(catalog.into_parts() == play(OwnedTables::with_room(ROOM)).unwrap().into_parts(), played == before);
+        played
+    };
+    // a drop that takes none of its spans, and one of them
+    let bent = |word: usize, start: u64, length: u64| {
+        played(&|list| {
+            list.push_drop_table(155, CatalogId(7));
+            let record = list.calls.len() - CallRecord::SIZE;
+            list.calls[record + word..][..2].copy_from_slice(&[start, length]);
+        })
+    };
+    assert_eq!(played(&|_| ()), before + 1);
+    assert_eq!(played(&|list| list.push(CallRecord { time: 150, ..CallRecord::of(5) }, &[], &[], &[])), before);
+    assert_eq!(played(&|list| list.push(CallRecord { time: 150, ..CallRecord::of(MADE_FRESH) }, &[], &[], &[])), before);
+    let (words, bytes) = (session().lists.len() as u64, session().names.len() as u64);
+    for (word, size) in [(CallRecord::WORDS_START, words), (CallRecord::NAME_START, bytes), (CallRecord::NAMES_START, bytes)] {
+        for (start, length) in [(0, 0), (0, size), (size, 0), (1, size - 1)] {
+            assert_eq!(bent(word, start, length), before + 2);
+        }
+        for (start, length) in [(0, size + 1), (size, 1), (size + 1, 0), (1, size), (1, u64::MAX), (u64::MAX, 1), (u64::MAX, u64::MAX)] {
+            assert_eq!(bent(word, start, length), before);
+        }
+    }
+}
+
+#[test]
+fn an_answer_without_room_is_refused_and_the_list_goes_on() {
+    let mut list = session();
+    list.push_list_rows(SnapshotId(2), DIARY);
+    list.push_list_rows(SnapshotId(3), DIARY);
+    list.push_expire(&[SnapshotId(4)], 160);
+    list.push_cleanup(161);
+    list.push_list_schemas(SnapshotId(5));
+    list.push_cleanup(161);
+    let mut catalog = empty(ROOM);
+    // three rows, not five, one schema, and not the file's three words
+    let mut area = [77; 5];
+    let none = Ok(&[][..]);
+    let short = refused(SHORT_ANSWER_AREA, 0);
+    assert_eq!(catalog.play(&list, &mut area)[6..], [Ok(&[0, 1, 2][..]), short, none, short, Ok(&[0]), short]);
+    assert_eq!(area, [0, 1, 2, 0, 77]);
+    assert_eq!(catalog.cleanup(161).unwrap(), [handed(2, 3)]);
 }
 
 #[test]
 fn a_list_with_maintenance_and_refusals() {
     let room = Counts { snapshots: 10, schemas: 2, delete_files: 3, positions: 4, scheduled: 4, ..ROOM };
-    let mut catalog = Catalog::fresh(OwnedTables::with_room(room), 100).unwrap();
-    let refused = |number, place| Err(Refusal { number, place });
+    let mut catalog = empty(room);
     let none = || Ok(vec![]);
     let mut list = session();
     list.push_delete(155, FileId(1), uuid(5), &[1]);
     list.push_delete(155, FileId(1), uuid(6), &[0, 1]);
     list.push_delete(155, FileId(1), uuid(6), &[0]);
     list.push_create_schema(155, "1 2");
-    assert_eq!(catalog.play(&list)[5..], [none(), refused(ALREADY_DELETED, 1), refused(NO_ROOM, 0), refused(BAD_NAME, 0)]);
+    assert_eq!(given(&mut catalog, &list)[6..], [none(), refused(ALREADY_DELETED, 1), refused(NO_ROOM, 0), refused(BAD_NAME, 0)]);
 
     let mut list = CallList::new();
     list.push_expire(&[SnapshotId(4)], 160);
@@ -151,18 +256,21 @@ fn a_list_with_maintenance_and_refusals() {
     list.push_drop_schema(170, CatalogId(2));
     list.push_expire(&[0, 1, 2, 3, 5, 6].map(SnapshotId), 180);
     list.push_cleanup(181);
-    let given = catalog.play(&list);
-    assert_eq!(given[..4], [none(), none(), Ok(vec![handed(2, 3)]), refused(EXPIRES_LATEST, 0)]);
-    assert_eq!(given[4..8], [none(), none(), none(), none()]);
-    assert_eq!(given[8..], [Ok(vec![handed(0, 1), handed(1, 2), handed(3, 4), handed(4, 5)])]);
-    assert_eq!(catalog.list_schemas(SnapshotId(8)).unwrap(), [MAIN, CatalogId(2)]);
-    assert_eq!(catalog.list_schemas(SnapshotId(9)).unwrap(), [MAIN]);
+    list.push_list_schemas(SnapshotId(8));
+    list.push_list_schemas(SnapshotId(9));
+    let answers = given(&mut catalog, &list);
+    assert_eq!(answers[..2], [none(), none()]);
+    assert_eq!(answers[2].as_deref().map(Handed::read_all), Ok(vec![handed(2, 3)]));
+    assert_eq!(answers[3..8], [refused(EXPIRES_LATEST, 0), none(), none(), none(), none()]);
+    assert_eq!(answers[8].as_deref().map(Handed::read_all), Ok(vec![handed(0, 1), handed(1, 2), handed(3, 4), handed(4, 5)]));
+    assert_eq!(answers[9..], [Ok(vec![0, 2]), Ok(vec![0])]);
 
-    // no list is refused, whatever the tables and the counts are
+    // no list is refused, whatever the tables and the counts are; Fresh makes tables of them
     let most = Counts { scheduled: usize::MAX, data_files: usize::MAX, delete_files: usize::MAX, ..catalog.counts() };
     let mut unsound = Catalog::resume(catalog.into_parts().0, most);
-    assert_eq!(unsound.play(&list), vec![refused(NOT_SOUND, 0); 9]);
-    assert_eq!((unsound.play(&CallList::new()), unsound.counts()), (vec![], most));
+    assert_eq!(given(&mut unsound, &list), vec![refused(NOT_SOUND, 0); 11]);
+    assert_eq!((given(&mut unsound, &CallList::new()), unsound.counts()), (vec![], most));
+    assert_eq!(given(&mut unsound, &session()), vec![none(); 6]);
 }
 
 #[test]
