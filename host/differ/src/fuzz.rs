@@ -1,4 +1,5 @@
-//! So many random calls and damaged tables, from a seed: each list has one of its own, the next number, so that a find can be repeated by itself.
+//! So many random calls and damaged tables, and lists that one call plays, from a seed: each list of moves has one of its own, the next number, so that a
+//! find can be repeated by itself.
 
 use crate::limits;
 use crate::moves;
@@ -31,15 +32,16 @@ pub fn run(count: &str, seed: Option<&str>) -> Result<String, String> {
     play(count, seed).map(|(said, _)| said)
 }
 
-/// The same from a seed that is given, and then tables at the limits. Every number that a call can give has to be met.
+/// The same from a seed that is given, and then tables at the limits. Every number that a call can give has to be met, and every way in which a list is bent.
 pub fn bounded(count: &str, seed: &str) -> Result<String, String> {
     let (said, mut tally) = play(number(count)?, number(seed)?)?;
     for (shape, free) in [(Shape::FileEach, 0), (Shape::FileEach, 1), (Shape::HalfEnded, 0)] {
         limits::play(shape, free, &mut tally)?;
     }
-    match tally.unmet() {
-        Some((name, number)) => Err(format!("{said}\nfuzz: no {name} gave {number}")),
-        None => Ok(said),
+    match (tally.unmet(), tally.unbent()) {
+        (Some((name, number)), _) => Err(format!("{said}\nfuzz: no {name} gave {number}")),
+        (None, Some(how)) => Err(format!("{said}\nfuzz: no list played by one call {how}")),
+        (None, None) => Ok(said),
     }
 }
 

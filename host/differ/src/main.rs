@@ -2,6 +2,7 @@
 #![forbid(unsafe_code)]
 
 mod bench;
+mod bends;
 mod call_words;
 mod catalogue;
 mod check_limits;
@@ -14,6 +15,7 @@ mod from_cases;
 mod fuzz;
 mod limits;
 mod moves;
+mod one_call;
 mod play;
 mod player;
 mod proved;
@@ -37,7 +39,7 @@ const USAGE: &str = "usage:
   differ unmarked                the cases of the diary session that are not proved
   differ write CASES FOLDER      the lists of conformance/, from the folder of the proved cases and from seeds
   differ play PATH               a list, or a folder of them, against both
-  differ sessions PATH COUNT     the same lists and so many random ones, in lists that one call plays
+  differ sessions PATH COUNT     the same lists and so many random ones, in lists that one call plays, bent in every way
   differ published COUNT         the published queries on SQLite, for so many random catalogues
   differ bench [CALL ..]         the table of docs/BENCHMARKS.md: times of the calls, as ratios
   differ costs                   the table of docs/CHECK-TIMES.md: what each call costs beyond the check, in plain passes

@@ -1,13 +1,17 @@
-//! Plays a list of moves on both implementations: everything compared after every call, demand 3 looked after, and damaged tables beside the way.
+//! Plays a list of moves on both implementations: everything compared after every call, demand 3 looked after, and beside the way damaged tables and lists
+//! that one call plays.
 
-use crate::catalogue::Catalogue;
+use crate::call_words::push;
+use crate::catalogue::{Catalogue, Second};
 use crate::choices::Pick;
-use crate::moves::{Asked, Damaged, Lifted, List, Move, Raised, Room};
-use crate::play::{Pair, Played};
+use crate::moves::{Asked, Damaged, Lifted, List, Move, Raised, Room, Session};
+use crate::one_call::Lent;
+use crate::play::{self, Pair, Played};
 use crate::runs::{SCHEDULED, SIZES, SNAPSHOTS, TABLES};
 use crate::script::Line;
 use crate::step::Step;
 use crate::tally::Tally;
+use gukoremo::CallList;
 use second::lent::NUMBER_LIMIT;
 use second::{load, Call, Catalog, History};
 
@@ -59,9 +63,11 @@ pub fn play(list: &List, questions: Questions, lines: &mut Vec<Line>, tally: &mu
     lines.clear();
     let mut player = Player { pair: Pair::default(), area: (0, 0), history: None, questions, lines, tally };
     player.begin(list)?;
-    for next in &list.moves {
+    for (at, next) in list.moves.iter().enumerate() {
+        player.sessions_at(at, list)?;
         player.go_on(next, list.lifted.is_some())?;
     }
+    player.sessions_at(list.moves.len(), list)?;
     player.ask(ASKED_LAST, Pick(0))?;
     player.tally.lists += 1;
     player.tally.longest = player.tally.longest.max(list.moves.len() as u64);
@@ -220,5 +226,49 @@ impl Player<'_> {
         self.lines.truncate(before);
         (self.pair, self.area) = (pair, area);
         Ok(())
+    }
+
+    /// The lists that one call plays after so many moves.
+    fn sessions_at(&mut self, at: usize, list: &List) -> Done {
+        let last = list.moves.len() as u64;
+        let mut sessions = list.sessions.iter().filter(|session| session.before_last.up_to(last) == at as u64);
+        sessions.try_for_each(|session| self.session(session).map_err(differs))
+    }
+
+    /// On a copy, as it is and bent; the lines stay where it shows a difference.
+    fn session(&mut self, session: &Session) -> Result<(), String> {
+        let (mut pair, before) = (self.pair.clone(), self.lines.len());
+        for line in session.damage.iter().flat_map(|damage| damage.on(&self.pair.second)) {
+            pair.take(&line)?;
+            self.lines.push(line);
+        }
+        let whole = Lent::whole(self.list_of(session), session.area);
+        let found = whole.compare(&pair, self.lines)?;
+        found.count(self.tally);
+        if let Some((bend, bent)) = session.bend.and_then(|bend| Some((bend, bend.on(&whole, found.answered)?))) {
+            let found = bent.lent.compare(&pair, self.lines)?;
+            found.count(self.tally);
+            self.tally.bent[bend.way] += u64::from(bent.showed(&bend, &found)?);
+        }
+        self.lines.truncate(before);
+        Ok(())
+    }
+
+    /// Its steps, each chosen on what those before it leave, as far as that is sound.
+    fn list_of(&self, session: &Session) -> CallList {
+        let mut tables = self.pair.second.clone();
+        let mut list = CallList::new();
+        let mut add = |step: Step, tables: &mut Second| {
+            push(&mut list, &step);
+            play::step(tables, &step, &mut vec![0; session.area]);
+        };
+        if let Some(time) = session.fresh {
+            add(Step::Call(Call::Fresh { time }), &mut tables);
+        }
+        for asked in &session.asked {
+            let Ok(catalog) = load(&tables.words, &tables.counts) else { break };
+            add(asked.on(&catalog), &mut tables);
+        }
+        list
     }
 }

@@ -3,7 +3,7 @@
 use crate::catalogue::Catalogue;
 use crate::runs::{self, FIRST_NAMES, SIZES};
 use crate::step::Step;
-use gukoremo::{raw, CallList, CatalogId, FileId, Session, SnapshotId, Tables, TablesView, Uuid};
+use gukoremo::{raw, CallList, Catalog, CatalogId, FileId, Session, SnapshotId, Tables, TablesView, Uuid};
 use second::{Call, Counts, Outcome, Reading};
 
 const MARGIN: usize = 4;
@@ -121,7 +121,13 @@ impl Proved {
         self.counts = counts;
     }
 
-    /// Plays a list of calls as one call; gives how many were played, and the words of their answers.
+    /// Words of an area that a list's answers have room in.
+    pub fn room_for(&mut self, list: &CallList) -> usize {
+        let counts = counts_to(&self.counts);
+        Catalog::resume(self.tables(), counts).room_for(list)
+    }
+
+    /// Plays a list of calls and readings as one call; gives how many of its records were played, and the words of their answers.
     pub fn play(&mut self, list: &CallList, area: &mut [u64], told: &mut [u64]) -> (usize, usize) {
         let session = self.on_area(area, |this, area| this.on_area(told, |this, told| this.bare_play(list, area, told)));
         self.changed(counts_of(session.counts));

@@ -37,11 +37,9 @@ pub fn run() -> Result<String, String> {
                 let most = most.entry(name).or_default();
                 *most = taken.max(*most);
             };
-            if let Step::Call(call) = &step {
-                let mut list = CallList::new();
-                call_words::push(&mut list, call);
-                note("play", taken(&full.proved, move |tables, area| tables.bare_play(&list, area, &mut [0; TOLD_SIZE]).played as u64)?);
-            }
+            let mut list = CallList::new();
+            call_words::push(&mut list, &step);
+            note("play", taken(&full.proved, move |tables, area| tables.bare_play(&list, area, &mut [0; TOLD_SIZE]).played as u64)?);
             note(step::name(&step), taken(&full.proved, move |tables, area| tables.bare(&step, area))?);
         }
     }

@@ -1,5 +1,6 @@
 //! What was played, counted.
 
+use crate::bends::WAYS;
 use crate::step::{self, Step};
 use std::collections::BTreeMap;
 use std::fmt::Write as _;
@@ -13,6 +14,11 @@ pub struct Tally {
     pub still_sound: u64,
     pub questions: u64,
     pub longest: u64,
+    /// Lists that one call played, and the calls and readings in them.
+    pub one_calls: u64,
+    pub in_one_call: u64,
+    /// Of each way in which such a list is bent, those in which it showed.
+    pub bent: [u64; WAYS.len()],
     /// How often a call gave a number.
     met: BTreeMap<(&'static str, u64), u64>,
 }
@@ -49,7 +55,7 @@ impl Tally {
         }
     }
 
-    /// A number that a call gave, on damaged tables too, which are counted by themselves.
+    /// A number that a call gave, on damaged tables and in lists that one call plays too, which are counted by themselves.
     pub fn meet(&mut self, step: &Step, number: u64) {
         *self.met.entry((step::name(step), number)).or_default() += 1;
     }
@@ -63,6 +69,17 @@ impl Tally {
     pub fn unmet(&self) -> Option<(&'static str, u64)> {
         let mut pairs = NUMBERS.into_iter().flat_map(|(name, numbers)| numbers.iter().map(move |number| (name, *number)));
         pairs.find(|pair| !self.met.contains_key(pair))
+    }
+
+    /// A way in which a list is bent that never showed.
+    pub fn unbent(&self) -> Option<&'static str> {
+        self.bent.iter().zip(WAYS).find(|(count, _)| **count == 0).map(|(_, (_, how))| how)
+    }
+
+    /// How often each way showed.
+    pub fn bends(&self) -> String {
+        let bends: Vec<String> = self.bent.iter().zip(WAYS).map(|(count, (_, how))| format!("{count} {how}")).collect();
+        bends.join(", ")
     }
 
     /// How often each call gave each number.
@@ -80,10 +97,10 @@ impl Tally {
     }
 
     pub fn sums(&self) -> String {
-        let Tally { lists, calls, readings, damaged, still_sound, questions, longest, .. } = self;
+        let Tally { lists, calls, readings, damaged, still_sound, questions, longest, one_calls, in_one_call, .. } = self;
         format!(
             "{lists} lists of up to {longest} calls: {calls} calls, {readings} readings, {damaged} damaged tables ({still_sound} still sound), \
-             {questions} questions of demand 3"
+             {questions} questions of demand 3, {one_calls} lists played by one call with {in_one_call} calls and readings"
         )
     }
 }

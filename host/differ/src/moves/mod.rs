@@ -6,6 +6,7 @@ mod damage;
 mod lent;
 mod readings;
 mod rows;
+mod sessions;
 mod tables;
 
 use crate::choices::{mostly, one_in, pick, rarely, Pick};
@@ -18,6 +19,7 @@ use proptest::sample::select;
 use proptest::strategy::ValueTree;
 use proptest::test_runner::{Config, RngAlgorithm, TestRng, TestRunner};
 use second::ABSENT;
+pub use sessions::Session;
 use std::time::Duration;
 
 /// Runs that are lent, Fresh, and what comes after it.
@@ -28,6 +30,8 @@ pub struct List {
     pub time: u64,
     pub room: Room,
     pub lifted: Option<Lifted>,
+    /// Lists that one call plays, each on a copy of the tables as they are somewhere on the way.
+    pub sessions: Vec<Session>,
 }
 
 /// A call, readings after it, demand 3, and damaged copies of the tables as they then are.
@@ -105,10 +109,12 @@ fn list(moves: impl Strategy<Value = Vec<Move>>) -> impl Strategy<Value = List> 
     let lifted = rarely(5, uniform4(proptest::option::weighted(0.66, 0..24_u64)).prop_map(Lifted));
     // When the moves are as small as they get, shrinking tries once more to do without each of the first.
     let kept = uniform32(proptest::bool::weighted(1.0));
-    (moves, kept, lifted, time, room(), lent::lent()).prop_map(|(moves, kept, lifted, time, room, lent)| {
+    // Chosen last, so that the moves of a seed are the same without them.
+    let sessions = vec(sessions::session(), 0..=4);
+    (moves, kept, lifted, time, room(), lent::lent(), sessions).prop_map(|(moves, kept, lifted, time, room, lent, sessions)| {
         let kept = kept.into_iter().chain(std::iter::repeat(true));
         let moves = moves.into_iter().zip(kept).filter(|(_, is_kept)| *is_kept).map(|(next, _)| next).collect();
-        List { moves, lent, time, room, lifted }
+        List { moves, lent, time, room, lifted, sessions }
     })
 }
 
