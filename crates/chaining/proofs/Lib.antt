@@ -1,0 +1,4 @@
+pub mod Cases
+pub mod Chains
+pub mod Checkable
+pub mod Marks
