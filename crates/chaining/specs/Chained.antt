@@ -22,7 +22,8 @@ hasOpenDeletes ds k = any (λ e. eqb (e .body .dataFile) k && eqb (e .end) absen
 -- what calls keep beyond soundness (R15): a data file that is open and has a delete file on record has an open one
 unfoldable pub isChained : Catalog → Bool
 isChained C =
-    all (λ d. not (isOpen (C .dataFiles) (d .body .dataFile)) || hasOpenDeletes (C .deleteFiles) (d .body .dataFile)) (C .deleteFiles)
+    all (λ d. not (isOpen (C .dataFiles) (d .body .dataFile)) || hasOpenDeletes (C .deleteFiles) (d .body .dataFile))
+    (C .deleteFiles)
 
 -- data files can be found by id, the delete files are lent, and there is a flag for each data file
 pub record ChainCheckable (fs : List ℕ) (ds : List ℕ) (c : Counts) : Type 0 where

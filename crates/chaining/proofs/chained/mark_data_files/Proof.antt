@@ -10,6 +10,7 @@ use borrow.Author.Tests.{eq-eqb, ne-eqb}
 use Rattle.lists.specs.Runs.{from}
 use Rattle.lists.specs.Pieces.{flagged}
 use Rattle.lists.proofs.Loops.{from-all}
+use Rattle.layout.specs.Catalog.{absent}
 use Rattle.layout.specs.Words.{dataFileAt, deleteFileAt, deleteFilesIn}
 use Rattle.chaining.specs.Chained.{hasOpenDeletes}
 use Rattle.chaining.proofs.Marks.{or-false, marks-open, marks-ended, marks-end}
@@ -39,7 +40,7 @@ loop-again c =
       omega arith,
       omega arith,
       λ p j h. l .before .loop .inv .2 p j h
-          ∙ marks-open (a .delete-files .now) p (a .m) (l .before .loop .i) (dataFileAt (a .data-files .now) j .id) (l .loop-test .taken) (e .before .delete-file-data-file .ensures) (e .delete-file-end .ensures) (eq-eqb _ _ (b .if1 .taken))
+          ∙ marks-open (a .delete-files .now) p (a .m) (l .before .loop .i) (dataFileAt (a .data-files .now) j .id) (l .loop-test .taken) (e .before .delete-file-data-file .ensures) (e .delete-file-end .ensures) (eq-eqb (e .delete-file-end .result .0) absent (omega (arith, b .if1 .taken)))
           (flagged (l .before .loop .flags) j) (o .mark-data-file .ensures .set j h),
     )
 
