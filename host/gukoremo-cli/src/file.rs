@@ -41,10 +41,22 @@ fn beside(path: &Path, ending: &str) -> PathBuf {
     PathBuf::from(name)
 }
 
+/// Names with these endings are the lock's and that of a change that is being written, so no catalogue has one.
+fn may_be_named(path: &Path) -> Result<(), Failure> {
+    let name = path.file_name().unwrap_or_default().as_encoded_bytes();
+    match [".lock", ".new"].iter().find(|ending| name.ends_with(ending.as_bytes())) {
+        None => Ok(()),
+        Some(ending) => Err(Failure::new(code::USAGE, format!("{} is no name for a catalogue, and nothing was done.", path.display()))
+            .why(format!("what is kept beside a catalogue while it is changed has names that end in {ending}."))
+            .advice("give the catalogue another name.")),
+    }
+}
+
 impl Writing {
     /// To change a catalogue that is there. A link is followed: its target is what is locked and replaced.
     pub fn open(path: &Path, wait: Duration) -> Result<(Writing, Lake), Failure> {
         let target = fs::canonicalize(path).map_err(|error| Failure::io(path, "opened", error))?;
+        may_be_named(&target)?;
         // not a file, no catalogue: said before a lock is made beside it
         read(path)?;
         let lock = lock::take(&beside(&target, ".lock"), path, wait)?;
@@ -54,6 +66,7 @@ impl Writing {
 
     /// To make a catalogue where no file is.
     pub fn create(path: &Path, wait: Duration) -> Result<Writing, Failure> {
+        may_be_named(path)?;
         let there = || {
             Failure::new(code::EXISTS, format!("{} is there already, and was left as it is.", path.display()))
                 .advice("give another path, or move that file away first.")

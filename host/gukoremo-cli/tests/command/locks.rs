@@ -78,3 +78,47 @@ fn a_link_stays_a_link() {
     assert!(link.symlink_metadata().expect("there").is_symlink());
     assert!(answer(&["schemas", text(&path), "--csv"]).contains("books"));
 }
+
+/// What has the lock's name and is somebody's is left as it is, and so is the catalogue.
+#[test]
+fn a_file_with_the_locks_name_is_not_written() {
+    let folder = Folder::new("victims");
+    let (path, new, lock, victim) = (folder.path("v.lake"), folder.path("new.lake"), folder.path("v.lake.lock"), folder.path("victim.txt"));
+    diary(&path);
+    let before = std::fs::read(&path).expect("there");
+    let refused = |words: &[&str], code: i32, said: &str| {
+        let output = gukoremo(words);
+        let all = String::from_utf8_lossy(&output.stderr).into_owned();
+        assert_eq!(output.status.code(), Some(code), "{words:?}: {all}");
+        assert!(all.contains(said), "{words:?}: {all}");
+    };
+    std::fs::write(&victim, "a letter").expect("written");
+    std::fs::remove_file(&lock).expect("there");
+    std::os::unix::fs::symlink(&victim, &lock).expect("a link");
+    refused(&["create-schema", text(&path), "books"], 73, "it is a link");
+    std::fs::remove_file(&lock).expect("there");
+    std::fs::hard_link(&victim, &lock).expect("a link");
+    refused(&["create-schema", text(&path), "books"], 73, "v.lake.lock is there and is no lock of gukoremo");
+    std::os::unix::fs::symlink(&victim, folder.path("new.lake.lock")).expect("a link");
+    refused(&["init", text(&new)], 73, "no lock of gukoremo");
+    assert_eq!(std::fs::read(&victim).expect("there"), b"a letter");
+    // a link to nothing makes nothing
+    std::fs::remove_file(&lock).expect("there");
+    std::os::unix::fs::symlink(folder.path("none"), &lock).expect("a link");
+    refused(&["create-schema", text(&path), "books"], 73, "it is a link");
+    assert!(!folder.path("none").exists());
+    // a catalogue is somebody's too
+    std::fs::remove_file(&lock).expect("there");
+    std::fs::copy(&path, &lock).expect("copied");
+    refused(&["create-schema", text(&path), "books"], 73, "no lock of gukoremo");
+    refused(&["create-schema", text(&lock), "books"], 64, "end in .lock");
+    refused(&["init", text(&folder.path("other.lock"))], 64, "end in .lock");
+    refused(&["init", text(&folder.path("other.new"))], 64, "end in .new");
+    assert_eq!(std::fs::read(&lock).expect("there"), before);
+    assert_eq!(std::fs::read(&path).expect("there"), before);
+    assert!(!folder.path("other.lock").exists() && !folder.path("other.new").exists());
+    // what a holder that was killed has said is the lock's own
+    std::fs::write(&lock, "process 1, 'gukoremo insert', since 2026-11-16T09:30:00.000000Z\n").expect("written");
+    answer(&["create-schema", text(&path), "books"]);
+    assert_eq!(std::fs::read(&lock).expect("there"), b"");
+}
