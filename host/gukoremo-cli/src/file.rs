@@ -1,11 +1,11 @@
 //! A catalogue in a file. A change is written beside it, synced, and renamed over it: whoever opens the file meets the old state or the new one, whole.
 
+use crate::beside;
 use crate::failure::{code, Failure};
 use crate::format;
 use crate::lock::{self, Lock};
 use gukoremo::{Catalog, OwnedTables};
-use std::ffi::OsString;
-use std::fs::{self, File, OpenOptions};
+use std::fs::{self, File};
 use std::io::{Read, Write};
 use std::path::{Path, PathBuf};
 use std::time::Duration;
@@ -31,25 +31,25 @@ pub fn read(path: &Path) -> Result<Lake, Failure> {
 #[derive(Debug)]
 pub struct Writing {
     target: PathBuf,
-    _lock: Lock,
-}
-
-/// Beside a path: the same with this at its end.
-fn beside(path: &Path, ending: &str) -> PathBuf {
-    let mut name = OsString::from(path);
-    name.push(ending);
-    PathBuf::from(name)
+    /// There was no file before.
+    is_new: bool,
+    lock: Lock,
 }
 
 /// Names with these endings are the lock's and that of a change that is being written, so no catalogue has one.
 fn may_be_named(path: &Path) -> Result<(), Failure> {
     let name = path.file_name().unwrap_or_default().as_encoded_bytes();
-    match [".lock", ".new"].iter().find(|ending| name.ends_with(ending.as_bytes())) {
+    match [beside::LOCK, beside::NEW].iter().find(|ending| name.ends_with(ending.as_bytes())) {
         None => Ok(()),
         Some(ending) => Err(Failure::new(code::USAGE, format!("{} is no name for a catalogue, and nothing was done.", path.display()))
             .why(format!("what is kept beside a catalogue while it is changed has names that end in {ending}."))
             .advice("give the catalogue another name.")),
     }
+}
+
+fn there(path: &Path) -> Failure {
+    Failure::new(code::EXISTS, format!("{} is there already, and was left as it is.", path.display()))
+        .advice("give another path, or move that file away first.")
 }
 
 impl Writing {
@@ -59,36 +59,31 @@ impl Writing {
         may_be_named(&target)?;
         // not a file, no catalogue: said before a lock is made beside it
         read(path)?;
-        let lock = lock::take(&beside(&target, ".lock"), path, wait)?;
+        let lock = lock::take(&target, path, wait)?;
         let lake = read(&target)?;
-        Ok((Writing { target, _lock: lock }, lake))
+        Ok((Writing { target, is_new: false, lock }, lake))
     }
 
     /// To make a catalogue where no file is.
     pub fn create(path: &Path, wait: Duration) -> Result<Writing, Failure> {
         may_be_named(path)?;
-        let there = || {
-            Failure::new(code::EXISTS, format!("{} is there already, and was left as it is.", path.display()))
-                .advice("give another path, or move that file away first.")
-        };
         if path.symlink_metadata().is_ok() {
-            return Err(there());
+            return Err(there(path));
         }
-        let lock = lock::take(&beside(path, ".lock"), path, wait)?;
+        let lock = lock::take(path, path, wait)?;
         match path.symlink_metadata() {
-            Ok(_) => Err(there()),
-            Err(_) => Ok(Writing { target: path.to_path_buf(), _lock: lock }),
+            Ok(_) => Err(there(path)),
+            Err(_) => Ok(Writing { target: path.to_path_buf(), is_new: true, lock }),
         }
     }
 
     /// Writes the catalogue beside its file and syncs it. The file itself is untouched until [`Prepared::put`].
     pub fn prepare(&self, lake: Lake) -> Result<Prepared<'_>, Failure> {
         let (tables, counts) = lake.into_parts();
-        let prepared = Prepared { writing: self, new: beside(&self.target, ".new"), done: false };
-        prepared.write(&format::encode(&tables, counts)).map_err(|error| {
-            let failure = Failure::io(&self.target, "changed, and is as it was", error);
-            Failure { code: code::IO, ..failure }
-        })?;
+        let failed = |error| Failure { code: code::IO, ..Failure::io(&self.target, "changed, and is as it was", error) };
+        let (new, file) = beside::fresh(&self.target, |name| self.lock.writes(name)).map_err(failed)?;
+        let prepared = Prepared { writing: self, new, done: false };
+        prepared.write(file, &format::encode(&tables, counts)).map_err(failed)?;
         Ok(prepared)
     }
 
@@ -106,10 +101,7 @@ pub struct Prepared<'a> {
 }
 
 impl Prepared<'_> {
-    fn write(&self, bytes: &[u8]) -> std::io::Result<()> {
-        // what a killed change has left; the lock is ours, so nobody is writing it
-        let _ = fs::remove_file(&self.new);
-        let mut file = OpenOptions::new().write(true).create_new(true).open(&self.new)?;
+    fn write(&self, mut file: File, bytes: &[u8]) -> std::io::Result<()> {
         if let Ok(old) = fs::metadata(&self.writing.target) {
             file.set_permissions(old.permissions())?;
         }
@@ -120,7 +112,11 @@ impl Prepared<'_> {
     /// The new state takes the old one's place, in one step of the system, and the folder is synced.
     pub fn put(mut self) -> Result<(), Failure> {
         let target = &self.writing.target;
-        fs::rename(&self.new, target).map_err(|error| Failure { code: code::IO, ..Failure::io(target, "changed, and is as it was", error) })?;
+        let put = if self.writing.is_new { beside::name(&self.new, target) } else { fs::rename(&self.new, target) };
+        put.map_err(|error| match error.kind() {
+            std::io::ErrorKind::AlreadyExists => there(target),
+            _ => Failure { code: code::IO, ..Failure::io(target, "changed, and is as it was", error) },
+        })?;
         self.done = true;
         let folder = match target.parent() {
             Some(folder) if !folder.as_os_str().is_empty() => folder,

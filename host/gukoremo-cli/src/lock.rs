@@ -1,10 +1,14 @@
 //! The lock of a catalogue: a file beside it that one process at a time holds. The system lets it go when its holder ends, however it ends, so that no lock is
-//! ever left behind. What stands in the file says who holds it; a file of that name that holds anything else is somebody's, and is not written.
+//! ever left behind. What stands in the file says who holds it, and what file it is writing; a file of that name that holds anything else is somebody's, and is not
+//! written.
 
+use crate::beside;
 use crate::failure::{code, Failure};
 use crate::values::times;
-use std::fs::{File, OpenOptions, TryLockError};
+use std::ffi::OsStr;
+use std::fs::{self, File, OpenOptions, TryLockError};
 use std::io::{self, Read, Seek, Write};
+use std::os::unix::ffi::OsStrExt;
 use std::os::unix::fs::OpenOptionsExt;
 use std::path::Path;
 use std::thread::sleep;
@@ -13,19 +17,22 @@ use std::time::{Duration, Instant};
 #[derive(Debug)]
 pub struct Lock {
     file: File,
+    /// The line that says who holds it.
+    said: String,
     /// It is ours, and what is said in it too.
     taken: bool,
 }
 
 const PAUSE: Duration = Duration::from_millis(10);
 
-/// The lock, waited for so long.
-pub fn take(path: &Path, catalogue: &Path, wait: Duration) -> Result<Lock, Failure> {
+/// The lock of a catalogue's file, waited for so long. `catalogue` is what the file is called in messages.
+pub fn take(target: &Path, catalogue: &Path, wait: Duration) -> Result<Lock, Failure> {
+    let path = &beside::lock(target);
     if path.symlink_metadata().is_ok_and(|there| !there.is_file()) {
         return Err(not_ours(path, "it is a link, a folder or a device."));
     }
     let file = open(path).map_err(|error| Failure::io(path, "opened to lock the catalogue", error))?;
-    let mut lock = Lock { file, taken: false };
+    let mut lock = Lock { file, said: String::new(), taken: false };
     let until = Instant::now() + wait;
     loop {
         match lock.file.try_lock() {
@@ -35,16 +42,19 @@ pub fn take(path: &Path, catalogue: &Path, wait: Duration) -> Result<Lock, Failu
             Err(TryLockError::WouldBlock) => return Err(lock.held(path, catalogue)),
         }
     }
-    let said = lock.said().map_err(|error| Failure::io(path, "read", error))?;
-    if !is_own(&said) {
+    let found = lock.found().map_err(|error| Failure::io(path, "read", error))?;
+    if !is_own(&found) {
         return Err(not_ours(path, "it holds something else than the name of a process that changes the catalogue."));
     }
     lock.taken = true;
+    if let Some(name) = left_behind(&found).filter(|name| beside::is_new_of(target, name)) {
+        let _ = fs::remove_file(target.with_file_name(name));
+    }
     // Who holds it is a help to others, and no part of the lock: a disk too full for it stops nobody.
     let command = std::env::args_os().nth(1).unwrap_or_default();
     let command = command.to_string_lossy();
-    let said = format!("process {}, 'gukoremo {command}', since {}\n", std::process::id(), times::rfc(times::now()));
-    let _ = lock.say(said.as_bytes());
+    lock.said = format!("process {}, 'gukoremo {command}', since {}\n", std::process::id(), times::rfc(times::now()));
+    let _ = lock.say(lock.said.as_bytes());
     Ok(lock)
 }
 
@@ -61,6 +71,14 @@ fn is_own(said: &[u8]) -> bool {
     rest.starts_with(after) || after.starts_with(rest)
 }
 
+const WRITES: &[u8] = b"writes ";
+
+/// The file that a holder was writing when it was killed.
+fn left_behind(found: &[u8]) -> Option<&OsStr> {
+    let after = found.iter().position(|byte| *byte == b'\n')? + 1;
+    found[after..].strip_prefix(WRITES)?.strip_suffix(b"\n").map(OsStr::from_bytes)
+}
+
 /// A file that has the lock's name and is somebody's.
 fn not_ours(path: &Path, why: &str) -> Failure {
     Failure::new(code::EXISTS, format!("{} is there and is no lock of gukoremo: it was left as it is, and nothing was done.", path.display()))
@@ -69,27 +87,34 @@ fn not_ours(path: &Path, why: &str) -> Failure {
 }
 
 impl Lock {
-    fn say(&mut self, words: &[u8]) -> io::Result<()> {
-        self.file.set_len(0)?;
-        self.file.rewind()?;
-        self.file.write_all(words)
+    fn say(&self, words: &[u8]) -> io::Result<()> {
+        let mut file = &self.file;
+        file.set_len(0)?;
+        file.rewind()?;
+        file.write_all(words)
+    }
+
+    /// Says which file is being written: if we are killed, whoever has the lock next removes it.
+    pub fn writes(&self, name: &OsStr) {
+        let _ = self.say(&[self.said.as_bytes(), WRITES, name.as_bytes(), b"\n"].concat());
     }
 
     /// What stands in the file, as far as a holder says anything.
-    fn said(&mut self) -> io::Result<Vec<u8>> {
-        let mut said = Vec::new();
-        self.file.rewind()?;
-        (&self.file).take(400).read_to_end(&mut said)?;
-        Ok(said)
+    fn found(&self) -> io::Result<Vec<u8>> {
+        let mut found = Vec::new();
+        let mut file = &self.file;
+        file.rewind()?;
+        file.take(1000).read_to_end(&mut found)?;
+        Ok(found)
     }
 
     /// Someone else has it. The holder writes its line just after it has got the lock, so an empty file is looked at again.
-    fn held(&mut self, path: &Path, catalogue: &Path) -> Failure {
+    fn held(&self, path: &Path, catalogue: &Path) -> Failure {
         let mut holder = String::new();
         for _ in 0..5 {
-            let said = self.said().unwrap_or_default();
-            if is_own(&said) {
-                holder = String::from_utf8_lossy(&said).trim_end().to_string();
+            let found = self.found().unwrap_or_default();
+            if is_own(&found) {
+                holder = String::from_utf8_lossy(&found).lines().next().unwrap_or_default().to_string();
             }
             if !holder.is_empty() {
                 break;

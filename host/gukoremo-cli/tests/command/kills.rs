@@ -1,6 +1,6 @@
 //! Killed at any moment, the catalogue is as it was or as it was to be, byte for byte.
 
-use crate::support::{bytes, diary, large, text, Chance, Folder, COMMAND};
+use crate::support::{answer, bytes, diary, large, names_in, text, Chance, Folder, COMMAND};
 use gukoremo::{CatalogId, FileId, NewStatistics, Uuid};
 use gukoremo_cli::file::{self, Lake};
 use gukoremo_cli::records;
@@ -83,6 +83,13 @@ fn of_files(mut lake: Lake, step: u64) -> Change {
     }
 }
 
+/// How many files lie beside the catalogue that were to take its place.
+fn left_behind(path: &Path) -> u64 {
+    let own = path.file_name().expect("a name").to_str().expect("a name of this test");
+    let names = names_in(path.parent().expect("a folder"));
+    names.iter().filter(|name| name.starts_with(own) && name.ends_with(".new")).count() as u64
+}
+
 /// Makes changes and kills them at a random moment, until so many have died of it: one that had ended before is not counted. Every eighth is let end, and
 /// says how long a change takes just now.
 fn kill(path: &Path, kills: u64, seed: u64, next: impl Fn(Lake, u64) -> Change) -> Tally {
@@ -111,9 +118,14 @@ fn kill(path: &Path, kills: u64, seed: u64, next: impl Fn(Lake, u64) -> Change) 
         // a cleanup of nothing leaves the same bytes
         tally.before += u64::from(died && found == now);
         tally.after += u64::from(died && found != now);
-        tally.beside += u64::from(died && Path::new(&format!("{}.new", path.display())).exists());
+        let beside = left_behind(path);
+        tally.beside += u64::from(died && beside == 1);
+        assert!(beside <= u64::from(died), "step {step}: {beside} new files are left beside the catalogue: {words:?}");
         step += 1;
     }
+    // what the last kill has left the next change removes
+    answer(&["create-schema", text(path), "last"]);
+    assert_eq!(left_behind(path), 0);
     tally
 }
 

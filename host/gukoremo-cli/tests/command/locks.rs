@@ -50,7 +50,7 @@ fn a_full_disk_changes_nothing() {
     assert_eq!(output.status.code(), Some(74), "{said}");
     assert!(said.contains("as it was"), "{said}");
     assert_eq!(std::fs::read(&path).expect("there"), before);
-    assert!(!folder.path("f.lake.new").exists());
+    assert_eq!(folder.names(), ["f.lake", "f.lake.lock"]);
 }
 
 /// A cleanup whose list can't be written forgets no file.
@@ -121,4 +121,30 @@ fn a_file_with_the_locks_name_is_not_written() {
     std::fs::write(&lock, "process 1, 'gukoremo insert', since 2026-11-16T09:30:00.000000Z\n").expect("written");
     answer(&["create-schema", text(&path), "books"]);
     assert_eq!(std::fs::read(&lock).expect("there"), b"");
+}
+
+/// Nobody's file is replaced or removed: what is written beside a catalogue or an export has a name of its own, and is gone at the end.
+#[test]
+fn files_beside_are_kept() {
+    let folder = Folder::new("beside");
+    let (path, out) = (folder.path("b.lake"), folder.path("b.sqlite"));
+    let kept = ["b.lake.new", "b.lake.0123cdef.new", "b.sqlite.new", "b.sqlite.0123cdef.new", "b.sqlite-journal"];
+    kept.iter().for_each(|name| std::fs::write(folder.path(name), "a letter").expect("written"));
+    diary(&path);
+    answer(&["expire", text(&path), "4", "--time", "160"]);
+    answer(&["cleanup", text(&path), "--before", "161"]);
+    answer(&["room", text(&path), "--records", "100"]);
+    answer(&["export", text(&path), text(&out)]);
+    kept.iter().for_each(|name| assert_eq!(std::fs::read(folder.path(name)).expect("there"), b"a letter", "{name}"));
+    assert_eq!(folder.names().len(), kept.len() + 3, "{:?}", folder.names());
+    // a lock that names something else than a new file of this catalogue has nothing removed
+    for name in ["b.lake.new", "b.sqlite", "../beside", "b.sqlite.0123cdef.new"] {
+        let said = format!("process 1, 'gukoremo insert', since 2026-11-16T09:30:00.000000Z\nwrites {name}\n");
+        std::fs::write(folder.path("b.lake.lock"), said).expect("written");
+        answer(&["room", text(&path), "--records", "100"]);
+        assert_eq!(folder.names().len(), kept.len() + 3, "{:?}", folder.names());
+    }
+    // a name so long that only the lock's has room beside it
+    let long = folder.path(&"n".repeat(250));
+    diary(&long);
 }
