@@ -189,8 +189,8 @@ fn changes() -> Vec<Command> {
             .about("Hand out the scheduled files, to be removed from the storage")
             .after_help(
                 "Example:\n  gukoremo cleanup shop.lake --before 2026-11-01T00:00:00Z --csv\n\n\
-                 Each file is handed out once. The list is written before the catalogue \
-                 forgets the files:\nif the command fails, they are still scheduled.",
+                 Each file is handed out once. The list is written, and synced where it goes to a file, before the catalogue \
+                 forgets the files:\nif the command fails, as it does where the standard output is closed, they are still scheduled.",
             )
             .arg(file())
             .arg(

@@ -221,16 +221,17 @@ fn expire(writing: &Writing, mut lake: Lake, given: &ArgMatches) -> Result<u8, F
     Ok(0)
 }
 
-/// The list is out before the catalogue forgets the files: whatever happens in between, no file is forgotten that was not handed out.
+/// The list is out, and on the disk where it goes to a file, before the catalogue forgets the files: whatever happens in between, no file is forgotten that was not handed out.
 fn cleanup(writing: &Writing, mut lake: Lake, given: &ArgMatches) -> Result<u8, Failure> {
     let before = given.get_one("before").copied().unwrap_or_else(times::now);
     let handed = timed(|| lake.cleanup(before)).map_err(|refusal| refuse(refusal, &lake, &Asked::default()))?;
     let prepared = writing.prepare(lake)?;
     let mut list = List::new(&["file", "path"]);
     list.rows = handed.iter().map(|file| vec![Cell::Number(file.file.0), Cell::Text(file.uuid.path())]).collect();
-    list.print(form(given)).map_err(|failure| {
-        let what = "The list could not be written, so the files are still scheduled.".to_string();
-        Failure { code: code::IO, what, ..failure }
+    list.hand_out(form(given)).map_err(|why| {
+        Failure::new(code::IO, "The list could not be written, so the files are still scheduled.")
+            .why(format!("{why}."))
+            .advice("give it a place to be written to, such as a file: 'gukoremo cleanup FILE > LIST'.")
     })?;
     prepared.put()?;
     Ok(0)

@@ -1,7 +1,10 @@
 //! Answers: a list as a table for a terminal, as CSV or as JSON; a change as a sentence, or as one record of these.
 
 use crate::failure::Failure;
-use std::io::{self, Write};
+use std::fs::{self, File};
+use std::io::{self, Read, Write};
+use std::os::fd::AsFd;
+use std::os::unix::fs::{FileTypeExt, MetadataExt};
 
 #[derive(Clone, Copy, Debug, PartialEq, Eq)]
 pub enum Form {
@@ -80,11 +83,28 @@ impl List {
     }
 
     pub fn print(&self, form: Form) -> Result<(), Failure> {
-        output(|out| match form {
+        output(|out| self.write(form, out))
+    }
+
+    /// Writes the list to where it stays before anything is done about it: a file is synced, and an output that is closed is an error. Gives why it could not.
+    pub fn hand_out(&self, form: Form) -> Result<(), String> {
+        let says = |error: io::Error| format!("the system says: {error}");
+        if is_closed(&standard_output().map_err(says)?) {
+            return Err("the standard output is closed".to_string());
+        }
+        let out = written(|out| self.write(form, out)).map_err(says)?;
+        match out.metadata() {
+            Ok(of_file) if of_file.is_file() => out.sync_all().map_err(says),
+            _ => Ok(()),
+        }
+    }
+
+    fn write(&self, form: Form, out: &mut dyn Write) -> io::Result<()> {
+        match form {
             Form::Terminal => self.terminal(out),
             Form::Csv => self.csv(out),
             Form::Json => self.json(out),
-        })
+        }
     }
 
     fn csv(&self, out: &mut dyn Write) -> io::Result<()> {
@@ -152,8 +172,24 @@ impl Said {
 
 /// Writes to the standard output, all of it or an error.
 pub fn output(write: impl FnOnce(&mut dyn Write) -> io::Result<()>) -> Result<(), Failure> {
-    let mut out = io::BufWriter::with_capacity(1 << 16, io::stdout().lock());
-    write(&mut out).and_then(|()| out.flush()).map_err(Failure::output)
+    written(write).map(|_| ()).map_err(Failure::output)
+}
+
+fn written(write: impl FnOnce(&mut dyn Write) -> io::Result<()>) -> io::Result<File> {
+    let mut out = io::BufWriter::with_capacity(1 << 16, standard_output()?);
+    write(&mut out)?;
+    out.into_inner().map_err(io::IntoInnerError::into_error)
+}
+
+/// The standard output as a file: std's own takes one that can't be written for one that swallows what it is given.
+fn standard_output() -> io::Result<File> {
+    io::stdout().as_fd().try_clone_to_owned().map(File::from)
+}
+
+/// Whether it was closed when the command began. Rust's start has then put /dev/null there, open for reading too, which that of a `> /dev/null` is not.
+fn is_closed(mut out: &File) -> bool {
+    let null = fs::metadata("/dev/null").and_then(|null| Ok((null.rdev(), out.metadata()?)));
+    null.is_ok_and(|(null, own)| own.file_type().is_char_device() && own.rdev() == null) && out.read(&mut [0]).is_ok()
 }
 
 #[cfg(test)]

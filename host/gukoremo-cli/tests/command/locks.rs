@@ -2,7 +2,7 @@
 
 use crate::support::{answer, bytes, diary, gukoremo, large, text, Folder, COMMAND};
 use gukoremo_cli::file::Writing;
-use std::process::Command;
+use std::process::{Command, Output};
 use std::time::Duration;
 
 #[test]
@@ -53,17 +53,33 @@ fn a_full_disk_changes_nothing() {
     assert_eq!(folder.names(), ["f.lake", "f.lake.lock"]);
 }
 
-/// A cleanup whose list can't be written forgets no file.
+/// A cleanup whose list can't be written forgets no file: on a full disk, to an output that is closed, open for reading alone, or a pipe that nobody reads.
 #[test]
 fn a_cleanup_that_is_not_read_forgets_nothing() {
     let folder = Folder::new("cleanup");
-    let path = folder.path("c.lake");
+    let (path, list) = (folder.path("c.lake"), folder.path("list"));
     diary(&path);
     answer(&["expire", text(&path), "4", "--time", "160"]);
-    let full = std::fs::OpenOptions::new().write(true).open("/dev/full").expect("a full device");
-    let output = Command::new(COMMAND).args(["cleanup", text(&path), "--before", "161"]).stdout(full).output().expect("runs");
-    assert_eq!(output.status.code(), Some(74));
-    assert_eq!(answer(&["cleanup", text(&path), "--before", "161", "--csv"]).lines().count(), 2);
+    let forgets_nothing = |to: &str, output: Output| {
+        let said = String::from_utf8_lossy(&output.stderr);
+        assert_eq!(output.status.code(), Some(74), "{to}: {said}");
+        assert!(said.contains("still scheduled") && said.contains("why: "), "{to}: {said}");
+        assert!(answer(&["scheduled", text(&path), "--csv"]).contains("\n2,"), "{to}");
+    };
+    let cleanup = |to: &str| {
+        let script = format!("exec \"$0\" cleanup \"$1\" --before 161 --csv {to}");
+        Command::new("sh").args(["-c", &script, COMMAND, text(&path), text(&list)]).output().expect("runs")
+    };
+    std::fs::write(&list, "").expect("written");
+    for to in [">/dev/full", ">&-", "<&- >&-", "1<\"$2\"", "1</dev/null"] {
+        forgets_nothing(to, cleanup(to));
+    }
+    let (reader, writer) = std::io::pipe().expect("a pipe");
+    drop(reader);
+    let words = ["cleanup", text(&path), "--before", "161"];
+    forgets_nothing("a pipe", Command::new(COMMAND).args(words).stdout(writer).output().expect("runs"));
+    assert!(cleanup(">\"$2\"").status.success());
+    assert_eq!(std::fs::read_to_string(&list).expect("there").lines().count(), 2);
     assert_eq!(answer(&["cleanup", text(&path), "--before", "161", "--csv"]).lines().count(), 1);
 }
 
