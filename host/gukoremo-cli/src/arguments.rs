@@ -31,6 +31,7 @@ Times: microseconds since 1970, such as 110; RFC 3339, such as 2026-11-16T09:30:
 Exit codes:
   0         done
   1         the answer is no: not sound (check), not the same (diff)
+  3         the change was made, but its message could not be written or its folder not synced: don't repeat it
   64        the words of the command are not understood
   65        a file is damaged or no catalogue; a line of a script is wrong
   66, 73    a file is not there; is there already
@@ -39,7 +40,8 @@ Exit codes:
   75        someone else is changing the catalogue; try again, or --wait
   201..219  refused, by the refusal's number: 208 is refusal 8
 
-A change is made whole or not at all, and is on the disk when the command ends with 0. docs/COMMAND.md plays a session from init to cleanup.";
+A change is made whole or not at all, and is on the disk when the command ends with 0; with any code but 0 and 3 it
+was not made. docs/COMMAND.md plays a session from init to cleanup.";
 
 /// All commands.
 pub fn command() -> Command {

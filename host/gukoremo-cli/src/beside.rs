@@ -56,7 +56,10 @@ pub fn fresh(path: &Path, mut told: impl FnMut(&OsStr)) -> io::Result<(PathBuf, 
 /// Gives a new file the name that it is for, and takes no other file's place.
 pub fn name(new: &Path, path: &Path) -> io::Result<()> {
     match fs::hard_link(new, path) {
-        Ok(()) => fs::remove_file(new),
+        Ok(()) => {
+            let _ = fs::remove_file(new);
+            Ok(())
+        }
         Err(error) if error.kind() == io::ErrorKind::AlreadyExists => Err(error),
         // a file system that has no links
         Err(_) => fs::rename(new, path),

@@ -51,6 +51,11 @@ fn time(given: &ArgMatches) -> u64 {
     given.get_one("time").copied().unwrap_or_else(times::now)
 }
 
+/// Says what was done, once it is on the disk.
+fn say(said: Said, given: &ArgMatches) -> Result<u8, Failure> {
+    said.print(form(given)).map(|()| 0).map_err(|failure| failure.after_change(&said.sentence))
+}
+
 fn init(given: &ArgMatches) -> Result<u8, Failure> {
     let writing = Writing::create(path(given), wait(given))?;
     let places = given.get_one::<u64>("records").map_or(gukoremo::number::TABLE_LIMIT, |records| *records as usize);
@@ -61,8 +66,7 @@ fn init(given: &ArgMatches) -> Result<u8, Failure> {
     let sentence =
         format!("{} is a catalogue with the schema main, snapshot 0, and places for {places} records of each kind.", path(given).display());
     let fields = vec![("snapshot", Cell::Number(0)), ("time", Cell::Number(time)), ("records", Cell::Number(places as u64))];
-    Said { sentence, fields }.print(form(given))?;
-    Ok(0)
+    say(Said { sentence, fields }, given)
 }
 
 /// What a commit did, to be said once it is on the disk.
@@ -84,8 +88,7 @@ fn commit(name: &str, writing: &Writing, mut lake: Lake, given: &ArgMatches) -> 
     writing.replace(lake)?;
     let mut fields = vec![("snapshot", Cell::Number(done.snapshot.id.0)), ("time", Cell::Number(done.snapshot.time))];
     fields.extend(done.fields);
-    Said { sentence: format!("snapshot {}: {}", done.snapshot.id.0, done.what), fields }.print(form(given))?;
-    Ok(0)
+    say(Said { sentence: format!("snapshot {}: {}", done.snapshot.id.0, done.what), fields }, given)
 }
 
 /// The latest snapshot: what a commit's names are of.
@@ -217,8 +220,7 @@ fn expire(writing: &Writing, mut lake: Lake, given: &ArgMatches) -> Result<u8, F
     let files = if scheduled.is_empty() { "no file is scheduled".to_string() } else { format!("files scheduled: {}", ranges(&scheduled)) };
     let sentence = format!("expired {}; {files}", ranges(ids));
     let fields = vec![("expired", Cell::Number(ids.len() as u64)), ("time", Cell::Number(time)), ("scheduled", Cell::Number(scheduled.len() as u64))];
-    Said { sentence, fields }.print(form(given))?;
-    Ok(0)
+    say(Said { sentence, fields }, given)
 }
 
 /// The list is out, and on the disk where it goes to a file, before the catalogue forgets the files: whatever happens in between, no file is forgotten that was not handed out.
@@ -267,5 +269,6 @@ fn make_room(writing: &Writing, lake: Lake, given: &ArgMatches) -> Result<u8, Fa
         }
     }
     writing.replace(Catalog::resume(tables, counts))?;
-    show_room(&crate::file::read(path(given))?, form(given))
+    let shown = crate::file::read(path(given)).and_then(|lake| show_room(&lake, form(given)));
+    shown.map_err(|failure| failure.after_change(&format!("there are places for {places} records of each kind.")))
 }

@@ -8,6 +8,8 @@ use std::path::Path;
 pub mod code {
     /// A question was answered with no: the tables are not sound, the catalogues differ.
     pub const NO: u8 = 1;
+    /// The change was made; what came after it failed: its message, or the folder's sync.
+    pub const MADE: u8 = 3;
     /// The words of the command are not understood.
     pub const USAGE: u8 = 64;
     /// A file or a script is not what it should be.
@@ -71,6 +73,15 @@ impl Failure {
             return Failure::new(0, "");
         }
         Failure::new(code::IO, "The answer could not be written.").why(format!("the system says: {error}."))
+    }
+
+    /// The same of a change that is made, with what it has to say: whoever sees this must not ask for it again.
+    pub fn after_change(self, sentence: &str) -> Failure {
+        if self.what.is_empty() {
+            return self;
+        }
+        let what = "The change was made, but its message could not be written.".to_string();
+        Failure { code: code::MADE, what, ..self }.advice(format!("don't give the command again. The message is: {sentence}"))
     }
 }
 

@@ -123,9 +123,9 @@ impl Prepared<'_> {
             _ => Path::new("."),
         };
         File::open(folder).and_then(|folder| folder.sync_all()).map_err(|error| {
-            Failure::new(code::IO, format!("{} is changed, but its folder could not be synced.", target.display()))
+            Failure::new(code::MADE, format!("{} is changed, but its folder could not be synced.", target.display()))
                 .why(format!("the system says: {error}. If the machine stops now, the file may be found as it was."))
-                .advice("look at the disk, and then at the catalogue with 'gukoremo snapshots'.")
+                .advice("don't give the command again; look at the disk, and then at the catalogue with 'gukoremo snapshots'.")
         })
     }
 }

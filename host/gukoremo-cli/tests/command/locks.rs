@@ -83,6 +83,41 @@ fn a_cleanup_that_is_not_read_forgets_nothing() {
     assert_eq!(answer(&["cleanup", text(&path), "--before", "161", "--csv"]).lines().count(), 1);
 }
 
+/// A change whose message can't be written is made all the same, and a code of its own says so.
+#[test]
+fn a_change_that_is_not_said_is_made() {
+    let folder = Folder::new("unsaid");
+    let path = folder.path("u.lake");
+    let changes = [
+        (vec!["init", "--records", "64"], "is a catalogue with the schema main"),
+        (vec!["create-schema", "books"], "schema books, id 1"),
+        (vec!["drop-schema", "--schema", "books"], "schema books dropped"),
+        (vec!["create-table", "diary", "item:int64"], "table main.diary, id 2"),
+        (vec!["insert", "--table", "diary", "--rows", "3", "item=1..3"], "file 0 of 3 rows"),
+        (vec!["delete", "--file", "0", "--positions", "1"], "delete file 1 of file 0"),
+        (vec!["drop-table", "--table", "diary", "--json"], "table main.diary dropped"),
+        (vec!["expire", "0..3", "--csv"], "expired 0..3"),
+        (vec!["room", "--records", "32"], "places for 32 records"),
+    ];
+    let mut before = Vec::new();
+    for (words, word) in changes {
+        let full = std::fs::OpenOptions::new().write(true).open("/dev/full").expect("a full device");
+        let words: Vec<&str> = [&words[..1], &[text(&path)], &words[1..]].concat();
+        let output = Command::new(COMMAND).args(&words).stdout(full).output().expect("runs");
+        let said = String::from_utf8_lossy(&output.stderr);
+        assert_eq!(output.status.code(), Some(3), "{words:?}: {said}");
+        assert!(said.contains("The change was made") && said.contains(word), "{words:?}: {said}");
+        let after = std::fs::read(&path).expect("there");
+        assert_ne!(after, before, "{words:?}");
+        before = after;
+    }
+    // with any other code it was not made
+    let full = std::fs::OpenOptions::new().write(true).open("/dev/full").expect("a full device");
+    let output = Command::new(COMMAND).args(["create-schema", text(&path), "main"]).stdout(full).output().expect("runs");
+    assert_eq!(output.status.code(), Some(210));
+    assert_eq!(std::fs::read(&path).expect("there"), before);
+}
+
 /// A link is followed, and stays one.
 #[test]
 fn a_link_stays_a_link() {
