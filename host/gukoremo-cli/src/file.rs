@@ -4,9 +4,11 @@ use crate::beside;
 use crate::failure::{code, Failure};
 use crate::format;
 use crate::lock::{self, Lock};
+use crate::rights;
 use gukoremo::{Catalog, OwnedTables};
 use std::fs::{self, File};
 use std::io::{Read, Write};
+use std::os::unix::fs::MetadataExt;
 use std::path::{Path, PathBuf};
 use std::time::Duration;
 
@@ -57,8 +59,9 @@ impl Writing {
     pub fn open(path: &Path, wait: Duration) -> Result<(Writing, Lake), Failure> {
         let target = fs::canonicalize(path).map_err(|error| Failure::io(path, "opened", error))?;
         may_be_named(&target)?;
-        // not a file, no catalogue: said before a lock is made beside it
+        // not a file, no catalogue, not to be written: said before a lock is made beside it
         read(path)?;
+        rights::to_change(&target)?;
         let lock = lock::take(&target, path, wait)?;
         let lake = read(&target)?;
         Ok((Writing { target, is_new: false, lock }, lake))
@@ -103,7 +106,7 @@ pub struct Prepared<'a> {
 impl Prepared<'_> {
     fn write(&self, mut file: File, bytes: &[u8]) -> std::io::Result<()> {
         if let Ok(old) = fs::metadata(&self.writing.target) {
-            file.set_permissions(old.permissions())?;
+            rights::keep(&old, &file, old.mode() & 0o7777)?;
         }
         file.write_all(bytes)?;
         file.sync_all()

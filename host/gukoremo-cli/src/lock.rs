@@ -4,12 +4,13 @@
 
 use crate::beside;
 use crate::failure::{code, Failure};
+use crate::rights;
 use crate::values::times;
 use std::ffi::OsStr;
 use std::fs::{self, File, OpenOptions, TryLockError};
 use std::io::{self, Read, Seek, Write};
 use std::os::unix::ffi::OsStrExt;
-use std::os::unix::fs::OpenOptionsExt;
+use std::os::unix::fs::{MetadataExt, OpenOptionsExt};
 use std::path::Path;
 use std::thread::sleep;
 use std::time::{Duration, Instant};
@@ -31,7 +32,7 @@ pub fn take(target: &Path, catalogue: &Path, wait: Duration) -> Result<Lock, Fai
     if path.symlink_metadata().is_ok_and(|there| !there.is_file()) {
         return Err(not_ours(path, "it is a link, a folder or a device."));
     }
-    let file = open(path).map_err(|error| Failure::io(path, "opened to lock the catalogue", error))?;
+    let file = open(path, target).map_err(|error| Failure::io(path, "opened to lock the catalogue", error))?;
     let mut lock = Lock { file, said: String::new(), taken: false };
     let until = Instant::now() + wait;
     loop {
@@ -58,9 +59,27 @@ pub fn take(target: &Path, catalogue: &Path, wait: Duration) -> Result<Lock, Fai
     Ok(lock)
 }
 
-/// The lock's file, made where there is none. A link that came there just now is not followed.
-fn open(path: &Path) -> io::Result<File> {
-    OpenOptions::new().read(true).write(true).create(true).truncate(false).custom_flags(libc::O_NOFOLLOW).open(path)
+/// The lock's file, made where there is none, for whoever may write the catalogue. A link that came there just now is not followed.
+fn open(path: &Path, target: &Path) -> io::Result<File> {
+    let open = |options: &mut OpenOptions| options.read(true).custom_flags(libc::O_NOFOLLOW).open(path);
+    loop {
+        match open(OpenOptions::new().write(true)) {
+            Err(error) if error.kind() == io::ErrorKind::NotFound => {}
+            // to hold it reading is enough: the holder is then not named
+            Err(error) if error.kind() == io::ErrorKind::PermissionDenied => return open(&mut OpenOptions::new()),
+            opened => return opened,
+        }
+        match open(OpenOptions::new().write(true).create_new(true)) {
+            Err(error) if error.kind() == io::ErrorKind::AlreadyExists => continue,
+            Err(error) => return Err(error),
+            Ok(made) => {
+                if let Ok(catalogue) = fs::metadata(target) {
+                    let _ = rights::keep(&catalogue, &made, catalogue.mode() & 0o666);
+                }
+                return Ok(made);
+            }
+        }
+    }
 }
 
 /// Whether a lock's file is empty, or holds what a holder that was killed has said, if only the beginning of it.

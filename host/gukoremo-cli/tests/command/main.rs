@@ -1,4 +1,4 @@
-//! The command, tried as a process and from within: kills, locks, damage, a full disk, random scripts, the limits, the published queries.
+//! The command, tried as a process and from within: kills, locks, rights, damage, a full disk, random scripts, the limits, the published queries.
 //! Chance has a fixed seed, so that a failure comes again.
 
 mod damage;
@@ -7,5 +7,6 @@ mod kills;
 mod limits;
 mod locks;
 mod refusals;
+mod rights;
 mod scripts;
 mod support;
