@@ -27,6 +27,7 @@ Names and ids:
   digits are an id; a name of digits alone is quoted: --schema '\"7\"'
 
 Times: microseconds since 1970, such as 110; RFC 3339, such as 2026-11-16T09:30:00Z; or now.
+  Later changes can't have earlier times: a --time more than a day ahead of the clock takes --force.
 
 Exit codes:
   0         done
@@ -74,7 +75,7 @@ fn changes() -> Vec<Command> {
             .after_help("Example:\n  gukoremo init shop.lake --records 512\n\nWhat is not used takes no room on the disk.")
             .arg(file())
             .arg(records().help("Places for so many records of each kind, 1 to 4096, and 16 positions for each [default: 4096]"))
-            .arg(time("The first snapshot's time [default: now]"))
+            .args(time("The first snapshot's time [default: now]"))
             .arg(wait())
             .args(forms()),
         Command::new("create-schema")
@@ -82,7 +83,7 @@ fn changes() -> Vec<Command> {
             .after_help("Example:\n  gukoremo create-schema shop.lake books\n\nRefusals: 8, 9, 10, 4, 2.")
             .arg(file())
             .arg(Arg::new("name").value_name("NAME").required(true).help("1 to 32 ASCII letters, digits or underscores"))
-            .arg(time(COMMIT_TIME))
+            .args(time(COMMIT_TIME))
             .arg(wait())
             .args(forms()),
         Command::new("create-table")
@@ -107,7 +108,7 @@ fn changes() -> Vec<Command> {
                     .value_parser(columns::parse)
                     .help("A column; ? where nulls are allowed"),
             )
-            .arg(time(COMMIT_TIME))
+            .args(time(COMMIT_TIME))
             .arg(wait())
             .args(forms()),
         Command::new("insert")
@@ -129,7 +130,7 @@ fn changes() -> Vec<Command> {
             )
             .arg(Arg::new("statistics").value_name("COLUMN=MIN..MAX [nulls=N]").num_args(0..).help("The statistics of each column"))
             .arg(uuid())
-            .arg(time(COMMIT_TIME))
+            .args(time(COMMIT_TIME))
             .arg(wait())
             .args(forms()),
         Command::new("delete")
@@ -150,7 +151,7 @@ fn changes() -> Vec<Command> {
                     .help("Positions in the file, counted from 0, ascending: 1,5..9"),
             )
             .arg(uuid())
-            .arg(time(COMMIT_TIME))
+            .args(time(COMMIT_TIME))
             .arg(wait())
             .args(forms()),
         Command::new("drop-table")
@@ -158,7 +159,7 @@ fn changes() -> Vec<Command> {
             .after_help("Example:\n  gukoremo drop-table shop.lake --table main.diary\n\nRefusals: 6, 8, 4, 2.")
             .arg(file())
             .arg(table())
-            .arg(time(COMMIT_TIME))
+            .args(time(COMMIT_TIME))
             .arg(wait())
             .args(forms()),
         Command::new("drop-schema")
@@ -166,7 +167,7 @@ fn changes() -> Vec<Command> {
             .after_help("Example:\n  gukoremo drop-schema shop.lake --schema books\n\nRefusals: 6, 8, 11, 4, 2.")
             .arg(file())
             .arg(schema().required(true))
-            .arg(time(COMMIT_TIME))
+            .args(time(COMMIT_TIME))
             .arg(wait())
             .args(forms()),
         Command::new("expire")
@@ -184,7 +185,7 @@ fn changes() -> Vec<Command> {
                     .value_parser(numbers::parse_list)
                     .help("Snapshots, ascending: 0..3,5"),
             )
-            .arg(time("When the files are scheduled [default: now]"))
+            .args(time("When the files are scheduled [default: now]"))
             .arg(wait())
             .args(forms()),
         Command::new("cleanup")
@@ -338,8 +339,11 @@ fn uuid() -> Arg {
         .help("The new file's UUID: its path is ducklake-UUID.parquet [default: a new one]")
 }
 
-fn time(help: &'static str) -> Arg {
-    Arg::new("time").long("time").value_name("TIME").value_parser(times::parse).help(help)
+fn time(help: &'static str) -> [Arg; 2] {
+    [
+        Arg::new("time").long("time").value_name("TIME").value_parser(times::parse).help(help),
+        Arg::new("force").long("force").action(ArgAction::SetTrue).help("Take also a --time more than a day ahead of the clock"),
+    ]
 }
 
 fn wait() -> Arg {

@@ -15,6 +15,7 @@ use crate::values::{times, uuids};
 use clap::ArgMatches;
 use gukoremo::record::ColumnRecord;
 use gukoremo::{Catalog, CatalogId, FileId, NewColumn, NewStatistics, OwnedTables, SnapshotId, SnapshotRecord, Uuid};
+use std::io::Write;
 use std::path::PathBuf;
 use std::time::Duration;
 
@@ -47,26 +48,39 @@ fn value<'a, Value: Clone + Send + Sync + 'static>(given: &'a ArgMatches, name: 
     given.get_one(name).expect("required, or with a default")
 }
 
-fn time(given: &ArgMatches) -> u64 {
-    given.get_one("time").copied().unwrap_or_else(times::now)
+/// The given time, or the clock's. One that is more than a day ahead of the clock is most likely mistyped.
+fn time(given: &ArgMatches) -> Result<u64, Failure> {
+    let Some(time) = given.get_one("time").copied() else { return Ok(times::now()) };
+    if time > times::now().saturating_add(times::DAY) && !given.get_flag("force") {
+        let what = format!("The time {} is more than a day ahead of the clock, and nothing was done.", times::both(time));
+        return Err(Failure::new(code::USAGE, what)
+            .why("until then the clock's time would be too early for a change or a cleanup.")
+            .advice("give the right time with --time, or this one with --force."));
+    }
+    Ok(time)
 }
 
-/// Says what was done, once it is on the disk.
-fn say(said: Said, given: &ArgMatches) -> Result<u8, Failure> {
+const CHANGES_WAIT: &str = "until then a change is refused with 8 unless it has a later --time.";
+
+/// Says what was done, once it is on the disk; and what waits for the time, where that is ahead of the clock.
+fn say(said: Said, given: &ArgMatches, waits: &str) -> Result<u8, Failure> {
+    if let Some(time) = given.get_one::<u64>("time").filter(|time| **time > times::now()) {
+        let _ = writeln!(std::io::stderr(), "gukoremo: warning: the time {} is ahead of the clock: {waits}", times::both(*time));
+    }
     said.print(form(given)).map(|()| 0).map_err(|failure| failure.after_change(&said.sentence))
 }
 
 fn init(given: &ArgMatches) -> Result<u8, Failure> {
+    let time = time(given)?;
     let writing = Writing::create(path(given), wait(given))?;
     let places = given.get_one::<u64>("records").map_or(gukoremo::number::TABLE_LIMIT, |records| *records as usize);
-    let time = time(given);
     let fresh = timed(|| Catalog::fresh(OwnedTables::with_room(runs::room(places)), time));
     let lake = fresh.map_err(|refusal| Failure::new(code::REFUSED + refusal.number as u8, format!("{refusal}.")))?;
     writing.replace(lake)?;
     let sentence =
         format!("{} is a catalogue with the schema main, snapshot 0, and places for {places} records of each kind.", path(given).display());
     let fields = vec![("snapshot", Cell::Number(0)), ("time", Cell::Number(time)), ("records", Cell::Number(places as u64))];
-    say(Said { sentence, fields }, given)
+    say(Said { sentence, fields }, given, CHANGES_WAIT)
 }
 
 /// What a commit did, to be said once it is on the disk.
@@ -88,7 +102,7 @@ fn commit(name: &str, writing: &Writing, mut lake: Lake, given: &ArgMatches) -> 
     writing.replace(lake)?;
     let mut fields = vec![("snapshot", Cell::Number(done.snapshot.id.0)), ("time", Cell::Number(done.snapshot.time))];
     fields.extend(done.fields);
-    say(Said { sentence: format!("snapshot {}: {}", done.snapshot.id.0, done.what), fields }, given)
+    say(Said { sentence: format!("snapshot {}: {}", done.snapshot.id.0, done.what), fields }, given, CHANGES_WAIT)
 }
 
 /// The latest snapshot: what a commit's names are of.
@@ -97,7 +111,7 @@ fn latest(lake: &Lake) -> Result<SnapshotId, Failure> {
 }
 
 fn create_schema(lake: &mut Lake, given: &ArgMatches) -> Result<Done, Failure> {
-    let (name, time): (&String, u64) = (value(given, "name"), time(given));
+    let (name, time): (&String, u64) = (value(given, "name"), time(given)?);
     let made = timed(|| lake.create_schema(time, name));
     let asked = Asked { time: Some(time), name, thing: Some(format!("schema {name}")), ..Asked::default() };
     let snapshot = made.map_err(|refusal| refuse(refusal, lake, &asked))?;
@@ -106,7 +120,7 @@ fn create_schema(lake: &mut Lake, given: &ArgMatches) -> Result<Done, Failure> {
 }
 
 fn drop_schema(lake: &mut Lake, given: &ArgMatches) -> Result<Done, Failure> {
-    let (reference, time): (&Reference, u64) = (value(given, "schema"), time(given));
+    let (reference, time): (&Reference, u64) = (value(given, "schema"), time(given)?);
     let at = latest(lake)?;
     let schema = ask::schema_id(lake, at, reference)?;
     let made = timed(|| lake.drop_schema(time, schema));
@@ -118,7 +132,7 @@ fn drop_schema(lake: &mut Lake, given: &ArgMatches) -> Result<Done, Failure> {
 fn create_table(lake: &mut Lake, given: &ArgMatches) -> Result<Done, Failure> {
     let (reference, name): &(Reference, String) = value(given, "name");
     let columns: Vec<Column> = given.get_many::<Column>("columns").unwrap_or_default().cloned().collect();
-    let time = time(given);
+    let time = time(given)?;
     let at = latest(lake)?;
     let schema = ask::schema_id(lake, at, reference)?;
     let new: Vec<NewColumn<'_>> =
@@ -137,7 +151,7 @@ fn create_table(lake: &mut Lake, given: &ArgMatches) -> Result<Done, Failure> {
 }
 
 fn drop_table(lake: &mut Lake, given: &ArgMatches) -> Result<Done, Failure> {
-    let (reference, time): (&TableReference, u64) = (value(given, "table"), time(given));
+    let (reference, time): (&TableReference, u64) = (value(given, "table"), time(given)?);
     let at = latest(lake)?;
     let table = ask::table_id(lake, at, reference)?;
     let made = timed(|| lake.drop_table(time, table));
@@ -155,7 +169,7 @@ fn uuid(given: &ArgMatches) -> Result<Uuid, Failure> {
 }
 
 fn insert(lake: &mut Lake, given: &ArgMatches) -> Result<Done, Failure> {
-    let (reference, rows, time): (&TableReference, u64, u64) = (value(given, "table"), *value(given, "rows"), time(given));
+    let (reference, rows, time): (&TableReference, u64, u64) = (value(given, "table"), *value(given, "rows"), time(given)?);
     let uuid = uuid(given)?;
     let words = given.get_many::<String>("statistics").unwrap_or_default().map(String::as_str);
     let statistics =
@@ -193,7 +207,7 @@ fn columns(lake: &Lake, at: SnapshotId, table: CatalogId) -> Vec<String> {
 }
 
 fn delete(lake: &mut Lake, given: &ArgMatches) -> Result<Done, Failure> {
-    let (file, positions, time): (FileId, &Vec<u64>, u64) = (FileId(*value(given, "id")), value(given, "positions"), time(given));
+    let (file, positions, time): (FileId, &Vec<u64>, u64) = (FileId(*value(given, "id")), value(given, "positions"), time(given)?);
     let uuid = uuid(given)?;
     let made = timed(|| lake.delete(time, file, uuid, positions));
     let snapshot = made.map_err(|refusal| {
@@ -211,7 +225,7 @@ fn file_fields(table: CatalogId, file: u64, uuid: Uuid) -> Vec<(&'static str, Ce
 }
 
 fn expire(writing: &Writing, mut lake: Lake, given: &ArgMatches) -> Result<u8, Failure> {
-    let (ids, time): (&Vec<u64>, u64) = (value(given, "snapshots"), time(given));
+    let (ids, time): (&Vec<u64>, u64) = (value(given, "snapshots"), time(given)?);
     let before = records::scheduled(&lake).count();
     let snapshots: Vec<SnapshotId> = ids.iter().map(|id| SnapshotId(*id)).collect();
     timed(|| lake.expire(&snapshots, time)).map_err(|refusal| refuse(refusal, &lake, &Asked { list: ids, ..Asked::default() }))?;
@@ -220,7 +234,7 @@ fn expire(writing: &Writing, mut lake: Lake, given: &ArgMatches) -> Result<u8, F
     let files = if scheduled.is_empty() { "no file is scheduled".to_string() } else { format!("files scheduled: {}", ranges(&scheduled)) };
     let sentence = format!("expired {}; {files}", ranges(ids));
     let fields = vec![("expired", Cell::Number(ids.len() as u64)), ("time", Cell::Number(time)), ("scheduled", Cell::Number(scheduled.len() as u64))];
-    say(Said { sentence, fields }, given)
+    say(Said { sentence, fields }, given, "until then a cleanup hands these files out only with a later --before.")
 }
 
 /// The list is out, and on the disk where it goes to a file, before the catalogue forgets the files: whatever happens in between, no file is forgotten that was not handed out.

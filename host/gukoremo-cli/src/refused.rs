@@ -71,8 +71,8 @@ fn reason(refusal: Refusal, lake: &Lake, asked: &Asked<'_>) -> (String, String) 
                 Some(first) => format!(
                     "the first snapshot that is retained is {}, of {}, and you ask for {}.",
                     first.id.0,
-                    when(first.time),
-                    when(asked.time.unwrap_or(0))
+                    times::both(first.time),
+                    times::both(asked.time.unwrap_or(0))
                 ),
                 None => "there is none.".to_string(),
             },
@@ -81,10 +81,16 @@ fn reason(refusal: Refusal, lake: &Lake, asked: &Asked<'_>) -> (String, String) 
         numbers::TIME_FALLS => (
             format!(
                 "the latest snapshot, {latest_id}, has the time {}, and you give {}.",
-                when(latest.map_or(0, |snapshot| snapshot.time)),
-                when(asked.time.unwrap_or(0))
+                times::both(latest.map_or(0, |snapshot| snapshot.time)),
+                times::both(asked.time.unwrap_or(0))
             ),
-            "give that time or a later one with --time; without --time it is the clock's.",
+            match latest {
+                // a time that was mistyped: without --force it can't be met
+                Some(latest) if latest.time > times::now().saturating_add(times::DAY) => {
+                    "give that time or a later one with --time and --force, or go back to a copy from before that snapshot."
+                }
+                _ => "give that time or a later one with --time; without --time it is the clock's.",
+            },
         ),
         numbers::BAD_NAME => (
             format!("'{}' has {} bytes; a name is 1 to {NAME_SIZE} ASCII letters, digits or underscores.", asked.name, asked.name.len()),
@@ -119,10 +125,6 @@ fn reason(refusal: Refusal, lake: &Lake, asked: &Asked<'_>) -> (String, String) 
         _ => (String::new(), ""),
     };
     (why, advice.to_string())
-}
-
-fn when(time: u64) -> String {
-    format!("{time} ({})", times::rfc(time))
 }
 
 fn fullness(lake: &Lake) -> String {

@@ -3,7 +3,7 @@
 use std::time::{SystemTime, UNIX_EPOCH};
 
 const SECOND: u64 = 1_000_000;
-const DAY: u64 = 86_400 * SECOND;
+pub const DAY: u64 = 86_400 * SECOND;
 
 /// The clock's time, in microseconds since 1970.
 pub fn now() -> u64 {
@@ -101,6 +101,11 @@ pub fn show(time: u64, between: char, zone: &str) -> String {
     let micros = time % SECOND;
     let (hour, minute, second) = (second / 3600, second / 60 % 60, second % 60);
     format!("{year:04}-{month:02}-{day:02}{between}{hour:02}:{minute:02}:{second:02}.{micros:06}{zone}")
+}
+
+/// A time as it is given and as a date.
+pub fn both(time: u64) -> String {
+    format!("{time} ({})", rfc(time))
 }
 
 /// A time in RFC 3339.

@@ -1,4 +1,4 @@
-//! The command, tried as a process and from within: kills, locks, rights, damage, a full disk, random scripts, the limits, the published queries.
+//! The command, tried as a process and from within: kills, locks, rights, damage, a full disk, times ahead of the clock, random scripts, the limits, the published queries.
 //! Chance has a fixed seed, so that a failure comes again.
 
 mod damage;
@@ -10,3 +10,4 @@ mod refusals;
 mod rights;
 mod scripts;
 mod support;
+mod times;
