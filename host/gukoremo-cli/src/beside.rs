@@ -21,6 +21,14 @@ pub fn lock(path: &Path) -> PathBuf {
     PathBuf::from(name)
 }
 
+/// The folder of a path.
+pub fn folder(path: &Path) -> &Path {
+    match path.parent() {
+        Some(folder) if !folder.as_os_str().is_empty() => folder,
+        _ => Path::new("."),
+    }
+}
+
 /// What the name of a new file begins with: the file's own name, as much as there is room for, and a point.
 fn beginning(path: &Path) -> Vec<u8> {
     let name = path.file_name().unwrap_or_default().as_bytes();

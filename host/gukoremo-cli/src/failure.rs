@@ -1,5 +1,6 @@
 //! What can go wrong, in sentences: what happened, why, and what to do; and the exit code that a script sees.
 
+use crate::beside::folder;
 use std::fmt;
 use std::io;
 use std::path::Path;
@@ -56,6 +57,11 @@ impl Failure {
             if error.kind() == io::ErrorKind::NotFound { code::NO_FILE } else { code::IO },
             format!("{} could not be {doing}.", path.display()),
         );
+        if error.kind() == io::ErrorKind::NotFound && !folder(path).is_dir() {
+            return failure
+                .why(format!("there is no folder {}.", folder(path).display()))
+                .advice("make that folder first, or give a path in one that is there.");
+        }
         let advice = match error.kind() {
             io::ErrorKind::NotFound => "give the path of a catalogue's file, or make one with 'gukoremo init'.",
             io::ErrorKind::PermissionDenied => "ask for the right to the file and to its folder.",

@@ -1,6 +1,6 @@
 //! A catalogue in a file. A change is written beside it, synced, and renamed over it: whoever opens the file meets the old state or the new one, whole.
 
-use crate::beside;
+use crate::beside::{self, folder};
 use crate::failure::{code, Failure};
 use crate::format;
 use crate::lock::{self, Lock};
@@ -73,6 +73,9 @@ impl Writing {
         if path.symlink_metadata().is_ok() {
             return Err(there(path));
         }
+        if !folder(path).is_dir() {
+            return Err(Failure::io(path, "made", std::io::ErrorKind::NotFound.into()));
+        }
         let lock = lock::take(path, path, wait)?;
         match path.symlink_metadata() {
             Ok(_) => Err(there(path)),
@@ -121,11 +124,7 @@ impl Prepared<'_> {
             _ => Failure { code: code::IO, ..Failure::io(target, "changed, and is as it was", error) },
         })?;
         self.done = true;
-        let folder = match target.parent() {
-            Some(folder) if !folder.as_os_str().is_empty() => folder,
-            _ => Path::new("."),
-        };
-        File::open(folder).and_then(|folder| folder.sync_all()).map_err(|error| {
+        File::open(folder(target)).and_then(|folder| folder.sync_all()).map_err(|error| {
             Failure::new(code::MADE, format!("{} is changed, but its folder could not be synced.", target.display()))
                 .why(format!("the system says: {error}. If the machine stops now, the file may be found as it was."))
                 .advice("don't give the command again; look at the disk, and then at the catalogue with 'gukoremo snapshots'.")

@@ -81,6 +81,9 @@ pub fn decode(path: &Path, bytes: &[u8]) -> Result<(OwnedTables, Counts), Failur
             .why(why)
             .advice("take a copy of the file from before the damage; gukoremo itself replaces the file whole and leaves no part of one.")
     };
+    if bytes.len() > longest() {
+        return Err(damaged(format!("it is too large: no catalogue has more than {} bytes.", longest())));
+    }
     if bytes.len() < HEADER {
         return Err(damaged(format!("it ends after {} bytes, within its header of {HEADER}.", bytes.len())));
     }

@@ -56,6 +56,13 @@ fn damaged_files_are_said_to_be() {
         }
         assert_eq!(std::fs::read(&path).expect("there"), bytes);
     }
+    // longer than any catalogue: no more of it is read than one can have
+    std::fs::write(&path, &whole).expect("written");
+    std::fs::OpenOptions::new().write(true).open(&path).and_then(|file| file.set_len(5 << 30)).expect("a file with a hole");
+    let output = gukoremo(&["check", text(&path)]);
+    let said = String::from_utf8_lossy(&output.stderr);
+    assert_eq!(output.status.code(), Some(65));
+    assert!(said.contains("too large: no catalogue has more than ") && !said.contains("it has "), "{said}");
     assert_eq!(gukoremo(&["check", text(&folder.path("none.lake"))]).status.code(), Some(66));
     assert_eq!(gukoremo(&["check", "/"]).status.code(), Some(65));
     assert_eq!(gukoremo(&["check", "/dev/null"]).status.code(), Some(65));
@@ -110,4 +117,21 @@ fn any_tables_are_answered() {
         }
     }
     assert!(unsound > 20 && unsound < 60, "{unsound} of 60 are not sound");
+}
+
+/// What is missing is named: the file, or the folder that it is to be in.
+#[test]
+fn a_missing_folder_is_said_to_be() {
+    let folder = Folder::new("missing");
+    let (path, out) = (folder.path("none/new.lake"), folder.path("none/out.sqlite"));
+    let there = folder.path("m.lake");
+    diary(&there);
+    for words in [vec!["init", text(&path)], vec!["snapshots", text(&path)], vec!["export", text(&there), text(&out)]] {
+        let output = gukoremo(&words);
+        let said = String::from_utf8_lossy(&output.stderr);
+        assert_eq!(output.status.code(), Some(66), "{words:?}: {said}");
+        assert!(said.contains("there is no folder ") && !said.contains("gukoremo init"), "{words:?}: {said}");
+    }
+    let said = gukoremo(&["snapshots", text(&folder.path("none.lake"))]).stderr;
+    assert!(String::from_utf8_lossy(&said).contains("gukoremo init"));
 }
