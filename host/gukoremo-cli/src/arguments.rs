@@ -26,7 +26,8 @@ Names and ids:
   --table main.diary, or its id: --table 1. 'diary' alone is main.diary
   digits are an id; a name of digits alone is quoted: --schema '\"7\"'
 
-Times: microseconds since 1970, such as 110; RFC 3339, such as 2026-11-16T09:30:00Z; or now.
+Times: microseconds since 1970, such as 110; RFC 3339, such as 2026-11-16T09:30:00Z; a date,
+  such as 2026-11-16, which is its midnight in UTC; or now.
   Later changes can't have earlier times: a --time more than a day ahead of the clock takes --force.
 
 Exit codes:
@@ -54,7 +55,6 @@ pub fn command() -> Command {
         .after_long_help(LESSON)
         .subcommand_required(true)
         .arg_required_else_help(true)
-        .disable_help_subcommand(true)
         .term_width(110)
         .arg(
             Arg::new("timing")
@@ -125,7 +125,8 @@ fn changes() -> Vec<Command> {
                     .long("rows")
                     .value_name("N")
                     .required(true)
-                    .value_parser(value_parser!(u64))
+                    .value_parser(|text: &str| numbers::number(text).map_err(|_| format!("'{text}' is no number of rows, which is 1 to 1048576")))
+                    .allow_negative_numbers(true)
                     .help("The rows of the file, 1 to 1048576"),
             )
             .arg(Arg::new("statistics").value_name("COLUMN=MIN..MAX [nulls=N]").num_args(0..).help("The statistics of each column"))
@@ -148,6 +149,7 @@ fn changes() -> Vec<Command> {
                     .value_name("LIST")
                     .required(true)
                     .value_parser(numbers::parse_list)
+                    .allow_negative_numbers(true)
                     .help("Positions in the file, counted from 0, ascending: 1,5..9"),
             )
             .arg(uuid())
@@ -183,6 +185,7 @@ fn changes() -> Vec<Command> {
                     .value_name("SNAPSHOTS")
                     .required(true)
                     .value_parser(numbers::parse_list)
+                    .allow_negative_numbers(true)
                     .help("Snapshots, ascending: 0..3,5"),
             )
             .args(time("When the files are scheduled [default: now]"))
@@ -201,6 +204,7 @@ fn changes() -> Vec<Command> {
                     .long("before")
                     .value_name("TIME")
                     .value_parser(times::parse)
+                    .allow_negative_numbers(true)
                     .help("Those scheduled before this time, not at it [default: now]"),
             )
             .arg(wait())
@@ -251,13 +255,13 @@ fn readings() -> Vec<Command> {
             .about("Say which snapshot was the latest at a time")
             .after_help("Example:\n  gukoremo at shop.lake 2026-11-16T09:30:00Z\n\nRefusal: 7.")
             .arg(file())
-            .arg(Arg::new("time").value_name("TIME").required(true).value_parser(times::parse).help("Microseconds since 1970, RFC 3339, or now"))
+            .arg(Arg::new("time").value_name("TIME").required(true).value_parser(times::parse).allow_negative_numbers(true).help("Microseconds since 1970, RFC 3339, a date, or now"))
             .args(forms()),
         Command::new("lookup")
             .about("Show the record of a data file or a delete file, by its id")
             .after_help("Example:\n  gukoremo lookup shop.lake 0\n\nRefusal: 6.")
             .arg(file())
-            .arg(Arg::new("id").value_name("ID").required(true).value_parser(value_parser!(u64)).help("The file's id"))
+            .arg(Arg::new("id").value_name("ID").required(true).value_parser(numbers::number).allow_negative_numbers(true).help("The file's id"))
             .args(forms()),
         Command::new("scheduled").about("List the files that are scheduled to be removed").arg(file()).args(forms()),
     ]
@@ -282,7 +286,8 @@ fn others() -> Vec<Command> {
                 Arg::new("at")
                     .long("at")
                     .value_name("SNAPSHOT")
-                    .value_parser(value_parser!(u64))
+                    .value_parser(numbers::number)
+                    .allow_negative_numbers(true)
                     .help("Compare files and rows at this snapshot [default: the latest that both have]"),
             )
             .arg(Arg::new("all").long("all").action(ArgAction::SetTrue).conflicts_with("at").help("Compare at every snapshot that both have"))
@@ -311,7 +316,8 @@ fn file() -> Arg {
 }
 
 fn records() -> Arg {
-    Arg::new("records").long("records").value_name("N").value_parser(value_parser!(u64).range(1..=4096))
+    let parse = |text: &str| numbers::between(text, 1, 4096);
+    Arg::new("records").long("records").value_name("N").value_parser(parse).allow_negative_numbers(true)
 }
 
 fn schema() -> Arg {
@@ -328,7 +334,13 @@ fn table() -> Arg {
 }
 
 fn file_id() -> Arg {
-    Arg::new("id").long("file").value_name("ID").required(true).value_parser(value_parser!(u64)).help("The data file, by id")
+    Arg::new("id")
+        .long("file")
+        .value_name("ID")
+        .required(true)
+        .value_parser(numbers::number)
+        .allow_negative_numbers(true)
+        .help("The data file, by id")
 }
 
 fn uuid() -> Arg {
@@ -341,7 +353,7 @@ fn uuid() -> Arg {
 
 fn time(help: &'static str) -> [Arg; 2] {
     [
-        Arg::new("time").long("time").value_name("TIME").value_parser(times::parse).help(help),
+        Arg::new("time").long("time").value_name("TIME").value_parser(times::parse).allow_negative_numbers(true).help(help),
         Arg::new("force").long("force").action(ArgAction::SetTrue).help("Take also a --time more than a day ahead of the clock"),
     ]
 }
@@ -350,7 +362,8 @@ fn wait() -> Arg {
     Arg::new("wait")
         .long("wait")
         .value_name("SECONDS")
-        .value_parser(value_parser!(u64).range(..=86_400))
+        .value_parser(|text: &str| numbers::between(text, 0, 86_400))
+        .allow_negative_numbers(true)
         .default_value("0")
         .hide_default_value(true)
         .help("Wait so long for someone else's change to end")
@@ -358,11 +371,17 @@ fn wait() -> Arg {
 
 fn at() -> [Arg; 2] {
     [
-        Arg::new("at").long("at").value_name("SNAPSHOT").value_parser(value_parser!(u64)).help("At this snapshot [default: the latest]"),
+        Arg::new("at")
+            .long("at")
+            .value_name("SNAPSHOT")
+            .value_parser(numbers::number)
+            .allow_negative_numbers(true)
+            .help("At this snapshot [default: the latest]"),
         Arg::new("time")
             .long("time")
             .value_name("TIME")
             .value_parser(times::parse)
+            .allow_negative_numbers(true)
             .conflicts_with("at")
             .help("At the snapshot that was the latest at this time"),
     ]

@@ -1,4 +1,4 @@
-//! Times: microseconds since 1970 as a number, or RFC 3339.
+//! Times: microseconds since 1970 as a number, RFC 3339, or a date alone.
 
 use std::time::{SystemTime, UNIX_EPOCH};
 
@@ -17,8 +17,13 @@ pub fn parse(text: &str) -> Result<u64, String> {
     if !text.is_empty() && text.bytes().all(|byte| byte.is_ascii_digit()) {
         return text.parse().map_err(|_| format!("{text} is above 2^64 - 1 microseconds"));
     }
-    rfc_3339(text.as_bytes())
-        .unwrap_or_else(|| Err("a time is microseconds since 1970, such as 110, or RFC 3339, such as 2026-11-16T09:30:00Z, or now".to_string()))
+    // a date is its midnight
+    let midnight = format!("{text}T00:00:00Z");
+    let text = if text.len() == 10 { &midnight } else { text };
+    rfc_3339(text.as_bytes()).unwrap_or_else(|| {
+        let forms = "microseconds since 1970, such as 110, RFC 3339, such as 2026-11-16T09:30:00Z, a date, such as 2026-11-16, or now";
+        Err(format!("a time is {forms}"))
+    })
 }
 
 /// The microseconds of an RFC 3339 time; none where it has not that form.
@@ -134,13 +139,19 @@ mod tests {
         assert_eq!(parse("1970-01-01T01:00:00.5+01:00"), Ok(500_000));
         assert_eq!(parse("1970-01-01 00:00:01z"), Ok(1_000_000));
         assert_eq!(parse("18446744073709551615"), Ok(u64::MAX));
+        assert_eq!(parse("1970-01-02"), Ok(super::DAY));
+        assert_eq!(parse("2026-11-17").map(rfc), Ok("2026-11-17T00:00:00.000000Z".to_string()));
         for bad in [
             "",
             "-1",
             "18446744073709551616",
             "1970-02-30T00:00:00Z",
             "1969-12-31T23:59:59Z",
-            "2026-11-16",
+            "2026-11-31",
+            "2026-13-01",
+            "2026-11-1",
+            "2026/11/16",
+            "2026-11-16Z",
             "2026-11-16T09:30:00",
             "1970-01-01T00:00:00.1234567Z",
             "1970-01-01T00:00:00.Z",

@@ -11,3 +11,4 @@ mod rights;
 mod scripts;
 mod support;
 mod times;
+mod words;
