@@ -8,7 +8,7 @@ use crate::readings::form;
 use crate::records;
 use crate::refused::{ranges, refuse, Asked};
 use crate::runs;
-use crate::values::columns::{type_name, Column};
+use crate::values::columns::Column;
 use crate::values::names::{Reference, TableReference};
 use crate::values::statistics::{self, Statistics};
 use crate::values::{times, uuids};
@@ -179,8 +179,9 @@ fn insert(lake: &mut Lake, given: &ArgMatches) -> Result<Done, Failure> {
     let new = new_statistics(lake, at, table, &statistics)?;
     let made = timed(|| lake.insert(time, table, rows, uuid, &new));
     let snapshot = made.map_err(|refusal| {
-        let columns = columns(lake, at, table);
-        refuse(refusal, lake, &Asked { time: Some(time), rows, uuid: Some(uuid), columns, ..Asked::of(at, format!("table {reference}")) })
+        let (columns, statistics) = (columns(lake, at, table), &new[..]);
+        let asked = Asked { time: Some(time), rows, uuid: Some(uuid), columns, statistics, ..Asked::of(at, format!("table {reference}")) };
+        refuse(refusal, lake, &asked)
     })?;
     let file = snapshot.next_file_id.0.saturating_sub(1);
     let what = format!("file {file} of {rows} rows in {reference}, {}", uuid.path());
@@ -198,12 +199,9 @@ fn new_statistics(lake: &Lake, at: SnapshotId, table: CatalogId, all: &[Statisti
     Ok(new)
 }
 
-/// The columns of a table, as they are written.
-fn columns(lake: &Lake, at: SnapshotId, table: CatalogId) -> Vec<String> {
-    let live = |column: &ColumnRecord| column.table == table && records::live(column.begin, column.end, at);
-    let mark = |column: &ColumnRecord| if column.nulls_allowed == 1 { "?" } else { "" };
-    let columns = records::columns(lake).filter(|(column, _)| live(column));
-    columns.map(|(column, name)| format!("{name}:{}{}", type_name(column.type_code), mark(&column))).collect()
+/// The columns of a table, with their names.
+fn columns(lake: &Lake, at: SnapshotId, table: CatalogId) -> Vec<(ColumnRecord, String)> {
+    records::columns(lake).filter(|(column, _)| column.table == table && records::live(column.begin, column.end, at)).collect()
 }
 
 fn delete(lake: &mut Lake, given: &ArgMatches) -> Result<Done, Failure> {

@@ -4,10 +4,13 @@ use crate::failure::{code, Failure};
 use crate::file::Lake;
 use crate::records;
 use crate::runs;
+use crate::values::columns::type_name;
+use crate::values::statistics::broken_rule;
 use crate::values::{times, uuids};
 use gukoremo::number::{COLUMN_LIMIT, NAME_SIZE};
 use gukoremo::outcome as numbers;
-use gukoremo::{sentence, FileId, Refusal, SnapshotId, Uuid};
+use gukoremo::record::ColumnRecord;
+use gukoremo::{sentence, FileId, NewStatistics, Refusal, SnapshotId, Uuid};
 
 /// What was asked, as far as a refusal can be about it.
 #[derive(Default)]
@@ -19,7 +22,8 @@ pub struct Asked<'a> {
     pub column_names: Vec<&'a str>,
     pub rows: u64,
     pub uuid: Option<Uuid>,
-    pub columns: Vec<String>,
+    pub columns: Vec<(ColumnRecord, String)>,
+    pub statistics: &'a [NewStatistics],
     pub file: Option<FileId>,
     pub list: &'a [u64],
 }
@@ -96,22 +100,14 @@ fn reason(refusal: Refusal, lake: &Lake, asked: &Asked<'_>) -> (String, String) 
             format!("'{}' has {} bytes; a name is 1 to {NAME_SIZE} ASCII letters, digits or underscores.", asked.name, asked.name.len()),
             "give a name of that form.",
         ),
-        numbers::NAME_TAKEN => (
-            format!("there is a {thing} at snapshot {latest_id}, the latest."),
-            "give another name, or drop that one first.",
-        ),
-        numbers::SCHEMA_NOT_EMPTY => (format!("{thing} still has tables."), "drop its tables first: 'gukoremo tables FILE --schema NAME' lists them."),
+        numbers::NAME_TAKEN => (format!("there is a {thing} at snapshot {latest_id}, the latest."), "give another name, or drop that one first."),
+        numbers::SCHEMA_NOT_EMPTY => {
+            (format!("{thing} still has tables."), "drop its tables first: 'gukoremo tables FILE --schema NAME' lists them.")
+        }
         numbers::BAD_COLUMNS => (bad_columns(asked), "give 1 to 16 columns, each with a name of its own."),
         numbers::BAD_RECORD_COUNT => (format!("you give {} rows.", asked.rows), "give --rows from 1 to 1048576; split a larger file."),
         numbers::UUID_TAKEN => (uuid_taken(lake, asked), "give another UUID, or leave --uuid out, and one is made."),
-        numbers::BAD_STATISTICS => (
-            format!(
-                "the table's columns are {}; each needs its statistics once, with nulls only where they are allowed and not above the rows, bounds in the \
-                 type's range, the lower not above the higher, and none where every row is null.",
-                asked.columns.join(", ")
-            ),
-            "give for each column COLUMN=MIN..MAX and, where there are nulls, nulls=N after it.",
-        ),
+        numbers::BAD_STATISTICS => (bad_statistics(asked), "give for each column COLUMN=MIN..MAX and, where there are nulls, nulls=N after it."),
         numbers::BAD_POSITIONS => (bad_positions(lake, asked), "give positions once each, from the lowest to the highest, below the file's rows."),
         numbers::ALREADY_DELETED => {
             let position = usize::try_from(refusal.place).ok().and_then(|at| asked.list.get(at).copied()).unwrap_or(0);
@@ -178,6 +174,13 @@ fn uuid_taken(lake: &Lake, asked: &Asked<'_>) -> String {
     let scheduled = records::scheduled(lake).filter(|file| file.uuid == uuid).map(|file| format!("file {}, which is scheduled,", file.file.0));
     let holder = data.chain(delete).chain(scheduled).next().unwrap_or_else(|| "another file".to_string());
     format!("{holder} has {}.", uuids::show(uuid))
+}
+
+fn bad_statistics(asked: &Asked<'_>) -> String {
+    let broken = broken_rule(&asked.columns, asked.rows, asked.statistics).unwrap_or_else(|| "they break a rule".to_string());
+    let mark = |column: &ColumnRecord| if column.nulls_allowed == 1 { "?" } else { "" };
+    let shown: Vec<String> = asked.columns.iter().map(|(column, name)| format!("{name}:{}{}", type_name(column.type_code), mark(column))).collect();
+    format!("{broken}. The table's columns are {}.", shown.join(", "))
 }
 
 fn bad_positions(lake: &Lake, asked: &Asked<'_>) -> String {

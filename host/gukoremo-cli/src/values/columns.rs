@@ -1,6 +1,7 @@
 //! New columns: `price:int64?` is a column `price` of type int64 in which nulls are allowed.
 
 use gukoremo::ColumnType;
+use std::ops::RangeInclusive;
 
 /// "Types": their names, in the order of their codes.
 pub const TYPES: [(&str, ColumnType); 8] = [
@@ -33,6 +34,20 @@ pub fn parse(text: &str) -> Result<Column, String> {
     };
     let (_, column_type) = TYPES.iter().find(|(known, _)| *known == code).ok_or_else(wrong)?;
     Ok(Column { name: name.to_string(), column_type: *column_type, nulls_allowed })
+}
+
+/// "Types, each with its lowest and highest value": those of a type's code.
+pub fn type_range(code: u64) -> RangeInclusive<i64> {
+    match TYPES.iter().find(|(_, known)| *known as u64 == code).map(|(_, known)| known) {
+        Some(ColumnType::Int8) => i8::MIN.into()..=i8::MAX.into(),
+        Some(ColumnType::Int16) => i16::MIN.into()..=i16::MAX.into(),
+        Some(ColumnType::Int32) => i32::MIN.into()..=i32::MAX.into(),
+        Some(ColumnType::Int64) | None => i64::MIN..=i64::MAX,
+        Some(ColumnType::Uint8) => 0..=u8::MAX.into(),
+        Some(ColumnType::Uint16) => 0..=u16::MAX.into(),
+        Some(ColumnType::Uint32) => 0..=u32::MAX.into(),
+        Some(ColumnType::Boolean) => 0..=1,
+    }
 }
 
 /// The name of a type's code.
