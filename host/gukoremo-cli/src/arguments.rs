@@ -34,7 +34,7 @@ Exit codes:
   0         done
   1         the answer is no: not sound (check), not the same (diff)
   3         the change was made, but its message could not be written or its folder not synced: don't repeat it
-  64        the words of the command are not understood
+  64        the words of the command are not understood, or not taken: a name in .lock, a time far ahead
   65        a file is damaged or no catalogue; a line of a script is wrong
   66, 73    a file is not there; is there already
   70        more than can be held

@@ -5,6 +5,7 @@ use std::fs::{self, File, OpenOptions};
 use std::hash::{BuildHasher, Hasher, RandomState};
 use std::io;
 use std::os::unix::ffi::{OsStrExt, OsStringExt};
+use std::os::unix::fs::OpenOptionsExt;
 use std::path::{self, Path, PathBuf};
 
 /// Beside `shop.lake` the lock is `shop.lake.lock`, and what is being written `shop.lake.` with eight digits and `.new`.
@@ -43,9 +44,9 @@ pub fn is_new_of(path: &Path, name: &OsStr) -> bool {
     digits.is_some_and(|digits| digits.len() == DIGITS && digits.iter().all(u8::is_ascii_hexdigit))
 }
 
-/// A new file in the folder of this path, empty, under a name of chance that nothing had before; `told` hears the name before the file is made. The path is
-/// absolute, since SQLite takes one that begins with `file:` for more than a path.
-pub fn fresh(path: &Path, mut told: impl FnMut(&OsStr)) -> io::Result<(PathBuf, File)> {
+/// A new file in the folder of this path, empty, of this mode at most, under a name of chance that nothing had before; `told` hears the name before the file is
+/// made. The path is absolute, since SQLite takes one that begins with `file:` for more than a path.
+pub fn fresh(path: &Path, mode: u32, mut told: impl FnMut(&OsStr)) -> io::Result<(PathBuf, File)> {
     let path = path::absolute(path)?;
     loop {
         let chance = RandomState::new().build_hasher().finish() as u32;
@@ -54,7 +55,7 @@ pub fn fresh(path: &Path, mut told: impl FnMut(&OsStr)) -> io::Result<(PathBuf, 
         let name = OsString::from_vec(name);
         told(&name);
         let new = path.with_file_name(&name);
-        match OpenOptions::new().write(true).create_new(true).open(&new) {
+        match OpenOptions::new().write(true).create_new(true).mode(mode).open(&new) {
             Err(error) if error.kind() == io::ErrorKind::AlreadyExists => continue,
             made => return made.map(|file| (new, file)),
         }

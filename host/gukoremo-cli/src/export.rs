@@ -40,7 +40,7 @@ pub fn run(given: &ArgMatches) -> Result<u8, Failure> {
 
 /// Written beside and renamed, so that a file of that name is whole.
 fn write_whole(lake: &Lake, out: &Path, data_path: &str) -> Result<(), Failure> {
-    let (new, _) = crate::beside::fresh(out, |_| ()).map_err(|error| Failure::io(out, "written", error))?;
+    let (new, _) = crate::beside::fresh(out, 0o644, |_| ()).map_err(|error| Failure::io(out, "written", error))?;
     let done = fill(lake, &new, data_path)
         .map_err(|error| Failure::new(code::IO, format!("{} could not be written.", out.display())).why(format!("SQLite says: {error}.")));
     let done = done.and_then(|()| fs::rename(&new, out).map_err(|error| Failure::io(out, "written", error)));

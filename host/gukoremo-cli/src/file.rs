@@ -87,7 +87,9 @@ impl Writing {
     pub fn prepare(&self, lake: Lake) -> Result<Prepared<'_>, Failure> {
         let (tables, counts) = lake.into_parts();
         let failed = |error| Failure { code: code::IO, ..Failure::io(&self.target, "changed, and is as it was", error) };
-        let (new, file) = beside::fresh(&self.target, |name| self.lock.writes(name)).map_err(failed)?;
+        // nobody else opens it before it has the rights of the old one
+        let mode = if self.is_new { 0o666 } else { 0o600 };
+        let (new, file) = beside::fresh(&self.target, mode, |name| self.lock.writes(name)).map_err(failed)?;
         let prepared = Prepared { writing: self, new, done: false };
         prepared.write(file, &format::encode(&tables, counts)).map_err(failed)?;
         Ok(prepared)
