@@ -1,2 +1,3 @@
 // Plays lists of calls and readings.
+pub mod judge;
 pub mod session;

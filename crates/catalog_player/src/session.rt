@@ -4,6 +4,8 @@ ghost use lib.ListN.{length};
 ghost use Rattle.layout.specs.Lent.{atEntry, atExit};
 ghost use Rattle.call_lists.specs.Records.{callSize};
 ghost use Rattle.call_lists.specs.Playing.{toldSize, callsPlayed, SessionPromise};
+use crate::judge::Judged;
+use crate::judge::judge;
 use call_dispatch::play::play;
 use call_lists::outcome::Session;
 use call_lists::outcome::TOLD_SIZE;
@@ -12,8 +14,8 @@ use call_lists::record::CallRecord;
 use call_lists::record::call_at;
 use call_lists::record::count_calls;
 use layout::outcome::Counts;
+use refusals::checked::Checked;
 use refusals::room::smaller;
-use soundness::checked::check;
 
 // How many records are played.
 fn calls_played(calls: &[u64], lists: &[u64], names: &[u8], told: &[u64]) -> usize
@@ -25,7 +27,8 @@ fn calls_played(calls: &[u64], lists: &[u64], names: &[u8], told: &[u64]) -> usi
 }
 
 // Plays a list of calls and readings, each on what the one before left and with what is left of the answer area, and tells of each its outcome: up to a
-// record that asks for nothing, as many as can be told. The first may be Fresh. Each is the check of the tables, then the operation.
+// record that asks for nothing, as many as can be told. The first may be Fresh. The tables are judged once where they are sound and chained,
+// and before each call where they are not.
 #[no_mangle]
 pub extern "C" fn catalog_play(
     snapshots: &mut [u64],
@@ -55,11 +58,19 @@ pub extern "C" fn catalog_play(
 {
     let n = calls_played(calls, lists, names, told);
     let mut held = counts;
+    let mut judged = Judged {
+        checked: Checked {
+            sound: false,
+            room: counts,
+        },
+        lasting: false,
+    };
     let mut answered: usize = 0;
     let mut i: usize = 0;
     while i < n {
         let call = call_at(calls, i);
-        let checked = check(
+        judged = judge(
+            judged,
             snapshots,
             schemas,
             schema_names,
@@ -75,7 +86,7 @@ pub extern "C" fn catalog_play(
             held,
         );
         let outcome = play(
-            checked,
+            judged.checked,
             snapshots,
             schemas,
             schema_names,
