@@ -274,11 +274,11 @@ fn others() -> Vec<Command> {
             .after_help("Exit code 0 is sound, 1 is not sound, 65 is a file that is damaged or no catalogue.")
             .arg(file()),
         Command::new("diff")
-            .about("Say which snapshots, files and rows two catalogues don't share")
+            .about("Say what two catalogues don't share, a line for each difference")
             .after_help(
                 "Example:\n  gukoremo diff ours.lake theirs.lake --at 5\n\n\
-                 Snapshots are compared by id, tables by name, files by path, rows by number. Files and rows \
-                 are compared at one\nsnapshot, or with --all at every one that both have. Exit code 0 is the same, 1 is not.",
+                 Compared are the snapshots, and all that the latest one that both have shows: schemas, tables, columns, files,\n\
+                 statistics, deleted positions, rows. Exit code 0 is the same, 1 is not.",
             )
             .arg(Arg::new("file").value_name("A").required(true).value_parser(value_parser!(PathBuf)).help("A catalogue's file"))
             .arg(Arg::new("other").value_name("B").required(true).value_parser(value_parser!(PathBuf)).help("Another one"))
@@ -288,9 +288,15 @@ fn others() -> Vec<Command> {
                     .value_name("SNAPSHOT")
                     .value_parser(numbers::number)
                     .allow_negative_numbers(true)
-                    .help("Compare files and rows at this snapshot [default: the latest that both have]"),
+                    .help("Compare this snapshot and what it shows, and no other"),
             )
-            .arg(Arg::new("all").long("all").action(ArgAction::SetTrue).conflicts_with("at").help("Compare at every snapshot that both have"))
+            .arg(
+                Arg::new("all")
+                    .long("all")
+                    .action(ArgAction::SetTrue)
+                    .conflicts_with("at")
+                    .help("Compare all that is on record: ended records and scheduled files too"),
+            )
             .args(forms()),
         Command::new("export")
             .about("Write a DuckLake 0.3 catalogue in SQLite, for the published queries")

@@ -1,32 +1,76 @@
-//! `diff`: which snapshots, tables, files and rows two catalogues don't share. Each is read through the compiled calls.
+//! `diff`: what two catalogues don't share, a line for each difference. Each is read through the compiled calls; all that they show of a snapshot is compared,
+//! or with `--all` all that is on record.
 
-use crate::ask;
+use crate::contents::{self, Node};
 use crate::failure::{code, Failure};
-use crate::file::{self, Lake};
-use crate::list::{Cell, List};
+use crate::file;
+use crate::list::{output, Cell, Form, List};
 use crate::readings::form;
-use crate::records;
 use crate::refused::ranges;
 use clap::ArgMatches;
-use gukoremo::{CatalogId, SnapshotId, Uuid};
-use std::collections::{BTreeMap, BTreeSet};
+use gukoremo::SnapshotId;
 use std::path::PathBuf;
 
 pub fn run(given: &ArgMatches) -> Result<u8, Failure> {
-    let read = |name: &str| file::read(given.get_one::<PathBuf>(name).expect("required"));
-    let (a, b) = (read("file")?, read("other")?);
-    let mut found = Found { list: List::new(&["what", "snapshot", "table", "only_in", "which"]) };
-    let shared = found.snapshots(&a, &b)?;
-    let compared: Vec<SnapshotId> = match given.get_one("at") {
-        Some(at) => vec![SnapshotId(*at)],
-        None if given.get_flag("all") => shared,
-        None => shared.last().copied().into_iter().collect(),
+    let path = |name: &str| given.get_one::<PathBuf>(name).expect("required");
+    let (a, b) = (file::read(path("file"))?, file::read(path("other"))?);
+    let (of_a, of_b) = (contents::snapshots(&a)?, contents::snapshots(&b)?);
+    let both: Vec<SnapshotId> =
+        pairs(&of_a, &of_b).into_iter().filter_map(|(one, other)| one.zip(other).map(|(one, _)| SnapshotId(one.id))).collect();
+    let mut found = Found { list: List::new(&["what", "snapshot", "of", "in_a", "in_b"]) };
+    let same = if let Some(at) = given.get_one("at") {
+        let at = SnapshotId(*at);
+        let only = |all: Vec<Node>| all.into_iter().filter(|one| one.id == at.0).collect::<Vec<Node>>();
+        // refused where one of the two does not retain it
+        let (shown_a, shown_b) = (contents::shown(&a, at)?, contents::shown(&b, at)?);
+        found.compare(&only(of_a), &only(of_b));
+        found.compare(&shown_a, &shown_b);
+        format!("show the same at snapshot {}", at.0)
+    } else if given.get_flag("all") {
+        found.compare(&of_a, &of_b);
+        found.compare(&contents::on_record(&a)?, &contents::on_record(&b)?);
+        // rows are read from the records: where these are the same, so are the rows
+        for at in if found.list.rows.is_empty() { vec![] } else { both } {
+            found.rows(&contents::rows(&a, at)?, &contents::rows(&b, at)?);
+        }
+        "have the same on record".to_string()
+    } else {
+        found.compare(&of_a, &of_b);
+        let at = both.last().copied();
+        if let Some(at) = at {
+            found.compare(&contents::shown(&a, at)?, &contents::shown(&b, at)?);
+        }
+        format!("have the same snapshots and show the same at snapshot {}; --all compares all that is on record", at.map_or(0, |at| at.0))
     };
-    for at in compared {
-        found.tables(&a, &b, at)?;
+    let is_same = found.list.rows.is_empty();
+    let said = match form(given) {
+        Form::Terminal if is_same => output(|out| writeln!(out, "{} and {} {same}.", path("file").display(), path("other").display())),
+        form => found.list.print(form),
+    };
+    let exit = if is_same { 0 } else { code::NO };
+    // a reader that went away leaves the answer as it is
+    said.map_err(|failure| Failure { code: if failure.code == 0 { exit } else { failure.code }, ..failure })?;
+    Ok(exit)
+}
+
+type Pair<'a> = (Option<&'a Node>, Option<&'a Node>);
+
+/// What is to be held against what: of one kind, those of the same name and id, then of the same name, then of the same id. The rest is in one alone.
+fn pairs<'a>(a: &'a [Node], b: &'a [Node]) -> Vec<Pair<'a>> {
+    let mut found: Vec<Option<usize>> = vec![None; a.len()];
+    let mut taken = vec![false; b.len()];
+    for (by_name, by_id) in [(true, true), (true, false), (false, true)] {
+        let same = |one: &Node, other: &Node| one.kind == other.kind && (!by_id || one.id == other.id) && (!by_name || one.name == other.name);
+        for (one, found) in a.iter().zip(&mut found).filter(|(_, found)| found.is_none()) {
+            *found = (0..b.len()).find(|at| !taken[*at] && same(one, &b[*at]));
+            if let Some(at) = *found {
+                taken[at] = true;
+            }
+        }
     }
-    found.list.print(form(given))?;
-    Ok(if found.list.rows.is_empty() { 0 } else { code::NO })
+    let of_a = a.iter().zip(found).map(|(one, found)| (Some(one), found.map(|at| &b[at])));
+    let only_in_b = b.iter().zip(taken).filter(|(_, taken)| !taken).map(|(other, _)| (None, Some(other)));
+    of_a.chain(only_in_b).collect()
 }
 
 /// The differences, one a line.
@@ -35,104 +79,46 @@ struct Found {
 }
 
 impl Found {
-    fn add(&mut self, what: &str, at: u64, table: &str, only_in: &str, which: String) {
-        let text = |text: &str| Cell::Text(text.to_string());
-        self.list.rows.push(vec![text(what), Cell::Number(at), text(table), text(only_in), Cell::Text(which)]);
+    /// What A has and what B has; nothing where it is not there.
+    fn add(&mut self, what: String, node: &Node, in_a: Option<String>, in_b: Option<String>) {
+        let side = |side: Option<String>| side.map_or(Cell::Nothing, Cell::Text);
+        let snapshot = node.snapshot.map_or(Cell::Nothing, Cell::Number);
+        self.list.rows.push(vec![Cell::Text(what), snapshot, Cell::Text(node.place.clone()), side(in_a), side(in_b)]);
     }
 
-    /// Snapshots by id; gives those that both have. Two of one id may still differ in time, change or next ids.
-    fn snapshots(&mut self, a: &Lake, b: &Lake) -> Result<Vec<SnapshotId>, Failure> {
-        let records = |lake: &Lake| -> Result<BTreeMap<u64, [u64; 6]>, Failure> {
-            // refused where the tables are not sound
-            ask::by_time(lake, u64::MAX)?;
-            let words = records::snapshots(lake)
-                .map(|one| (one.id.0, [one.time, one.schema_version, one.next_catalog_id.0, one.next_file_id.0, one.kind, one.object.0]));
-            Ok(words.collect())
-        };
-        let (a, b) = (records(a)?, records(b)?);
-        let shown = |words: &[u64; 6]| {
-            format!("time {}, {} {}, version {}, next ids {} {}", words[0], records::kind_name(words[4]), words[5], words[1], words[2], words[3])
-        };
-        let mut shared = Vec::new();
-        for id in a.keys().chain(b.keys()).collect::<BTreeSet<_>>() {
-            match (a.get(id), b.get(id)) {
+    fn compare(&mut self, a: &[Node], b: &[Node]) {
+        for pair in pairs(a, b) {
+            match pair {
                 (Some(one), Some(other)) => {
-                    shared.push(SnapshotId(*id));
-                    if one != other {
-                        self.add("snapshot", *id, "", "A", shown(one));
-                        self.add("snapshot", *id, "", "B", shown(other));
+                    for ((field, of_a), (_, of_b)) in one.fields.iter().zip(&other.fields).filter(|(of_a, of_b)| of_a.1 != of_b.1) {
+                        self.add(format!("{} {field}", one.kind), one, Some(of_a.clone()), Some(of_b.clone()));
                     }
+                    self.numbers(one, other);
+                    self.compare(&one.parts, &other.parts);
                 }
-                (Some(one), None) => self.add("snapshot", *id, "", "A", shown(one)),
-                (None, Some(other)) => self.add("snapshot", *id, "", "B", shown(other)),
+                (Some(one), None) => self.add(one.kind.to_string(), one, Some(one.summary()), None),
+                (None, Some(other)) => self.add(other.kind.to_string(), other, None, Some(other.summary())),
                 (None, None) => {}
             }
         }
-        Ok(shared)
     }
 
-    /// The tables of a snapshot by name, and what each shows.
-    fn tables(&mut self, a: &Lake, b: &Lake, at: SnapshotId) -> Result<(), Failure> {
-        let (of_a, of_b) = (tables(a, at)?, tables(b, at)?);
-        for name in of_a.keys().chain(of_b.keys()).collect::<BTreeSet<_>>() {
-            match (of_a.get(name), of_b.get(name)) {
-                (Some(one), Some(other)) => {
-                    self.files(&files(a, at, *one)?, &files(b, at, *other)?, at, name);
-                    let (one, other) = (rows(a, at, *one)?, rows(b, at, *other)?);
-                    self.rows("A", &one, &other, at, name);
-                    self.rows("B", &other, &one, at, name);
-                }
-                (one, _) => self.add("table", at.0, name, if one.is_some() { "A" } else { "B" }, String::new()),
-            }
-        }
-        Ok(())
-    }
-
-    /// Files by path. A file that both list may have another delete file in each.
-    fn files(&mut self, a: &BTreeMap<String, String>, b: &BTreeMap<String, String>, at: SnapshotId, table: &str) {
-        for (only_in, own, others) in [("A", a, b), ("B", b, a)] {
-            for (path, deletes) in own {
-                match others.get(path) {
-                    None => self.add("data file", at.0, table, only_in, path.clone()),
-                    Some(other) if other != deletes && !deletes.is_empty() => self.add("delete file", at.0, table, only_in, deletes.clone()),
-                    Some(_) => {}
-                }
+    /// Rows or positions: those that only one of the two has.
+    fn numbers(&mut self, one: &Node, other: &Node) {
+        if let (Some((what, of_a)), Some((_, of_b))) = (&one.numbers, &other.numbers) {
+            let only = |own: &[u64], others: &[u64]| own.iter().copied().filter(|number| others.binary_search(number).is_err()).collect::<Vec<u64>>();
+            let (in_a, in_b) = (only(of_a, of_b), only(of_b, of_a));
+            let side = |only: Vec<u64>| (!only.is_empty()).then(|| ranges(&only));
+            if !in_a.is_empty() || !in_b.is_empty() {
+                self.add(format!("{} {what}", one.kind), one, side(in_a), side(in_b));
             }
         }
     }
 
-    fn rows(&mut self, only_in: &str, own: &[u64], others: &[u64], at: SnapshotId, table: &str) {
-        // row ranges ascend with the file id, so the lists are in order
-        let only: Vec<u64> = own.iter().copied().filter(|row| others.binary_search(row).is_err()).collect();
-        if !only.is_empty() {
-            self.add("rows", at.0, table, only_in, ranges(&only));
+    /// The rows alone, of tables that both have.
+    fn rows(&mut self, a: &[Node], b: &[Node]) {
+        for (one, other) in pairs(a, b).into_iter().filter_map(|(one, other)| one.zip(other)) {
+            self.numbers(one, other);
         }
     }
-}
-
-/// The tables of every schema, by their full name.
-fn tables(lake: &Lake, at: SnapshotId) -> Result<BTreeMap<String, CatalogId>, Failure> {
-    let schema_names: BTreeMap<u64, String> = records::schemas(lake).map(|(schema, name)| (schema.id.0, name)).collect();
-    let table_names: BTreeMap<u64, String> = records::tables(lake).map(|(table, name)| (table.id.0, name)).collect();
-    let name = |names: &BTreeMap<u64, String>, id: CatalogId| names.get(&id.0).cloned().unwrap_or_else(|| id.0.to_string());
-    let mut all = BTreeMap::new();
-    for schema in ask::schemas(lake, at)? {
-        for table in ask::tables(lake, at, schema)? {
-            all.insert(format!("{}.{}", name(&schema_names, schema), name(&table_names, table)), table);
-        }
-    }
-    Ok(all)
-}
-
-/// The paths of the files, each with that of its delete file.
-fn files(lake: &Lake, at: SnapshotId, table: CatalogId) -> Result<BTreeMap<String, String>, Failure> {
-    let paths: BTreeMap<u64, Uuid> =
-        records::data_files(lake).map(|file| (file.id.0, file.uuid)).chain(records::delete_files(lake).map(|file| (file.id.0, file.uuid))).collect();
-    let path = |id: u64| paths.get(&id).map_or(String::new(), |uuid| uuid.path());
-    let listed = ask::files(lake, at, table, None)?;
-    Ok(listed.iter().map(|pair| (path(pair.data_file.0), pair.delete_file.map_or(String::new(), |id| path(id.0)))).collect())
-}
-
-fn rows(lake: &Lake, at: SnapshotId, table: CatalogId) -> Result<Vec<u64>, Failure> {
-    Ok(ask::rows(lake, at, table)?.into_iter().map(|row| row.0).collect())
 }

@@ -10,6 +10,7 @@ pub mod beside;
 pub mod changes;
 pub mod check;
 pub mod checksum;
+pub mod contents;
 pub mod diff;
 pub mod export;
 pub mod failure;

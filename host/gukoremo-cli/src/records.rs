@@ -69,6 +69,16 @@ pub fn delete_files(lake: &Lake) -> impl Iterator<Item = DeleteFileRecord> + '_ 
     lake.view().delete_files.chunks_exact(DeleteFileRecord::SIZE).take(lake.counts().delete_files).map(DeleteFileRecord::read)
 }
 
+/// The delete files, each with its positions: "the delete files' positions follow each other in delete file order".
+pub fn positions(lake: &Lake) -> impl Iterator<Item = (DeleteFileRecord, &[u64])> + '_ {
+    let mut rest = lake.view().positions;
+    delete_files(lake).map(move |file| {
+        let own;
+        (own, rest) = rest.split_at(rest.len().min(usize::try_from(file.delete_count).unwrap_or(usize::MAX)));
+        (file, own)
+    })
+}
+
 pub fn statistics(lake: &Lake) -> impl Iterator<Item = StatisticsRecord> + '_ {
     let words = lake.view().statistics.chunks_exact(StatisticsRecord::SIZE).take(lake.counts().statistics);
     words.map(|words| StatisticsRecord {

@@ -2,6 +2,7 @@
 //! Chance has a fixed seed, so that a failure comes again.
 
 mod damage;
+mod diff;
 mod export;
 mod kills;
 mod limits;

@@ -95,24 +95,6 @@ fn names_and_ids() {
     assert_eq!(answer(&["files", text(&path), "--table", "3", "--where", "nulls=5", "--csv"]).lines().count(), 4);
 }
 
-/// `diff` says what two catalogues don't share.
-#[test]
-fn what_is_not_shared() {
-    let folder = Folder::new("diff");
-    let (ours, theirs) = (folder.path("a.lake"), folder.path("b.lake"));
-    diary(&ours);
-    std::fs::copy(&ours, &theirs).expect("copied");
-    assert_eq!(gukoremo(&["diff", text(&ours), text(&theirs), "--all"]).status.code(), Some(0));
-    answer(&["delete", text(&ours), "--file", "1", "--positions", "0", "--time", "200", "--uuid", "00000000-0000-0000-0000-0000000000aa"]);
-    answer(&["create-schema", text(&theirs), "wall", "--time", "200"]);
-    let output = gukoremo(&["diff", text(&ours), text(&theirs), "--csv"]);
-    assert_eq!(output.status.code(), Some(1));
-    let said = String::from_utf8_lossy(&output.stdout).into_owned();
-    assert!(said.contains("rows,6,main.diary,B,3\n"), "{said}");
-    assert!(said.contains("delete file,6,main.diary,A,ducklake-00000000-0000-0000-0000-0000000000aa.parquet\n"), "{said}");
-    assert!(said.contains("snapshot,6,,A,") && said.contains("snapshot,6,,B,"), "{said}");
-}
-
 /// The rule that is said to be broken is there whenever the call refuses with 15, and only then.
 #[test]
 fn broken_rules_of_statistics() {

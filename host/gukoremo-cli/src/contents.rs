@@ -1,0 +1,229 @@
+//! What a catalogue holds, as a tree: schemas, their tables, and of each its columns, files, statistics and delete files. At a snapshot it is what the compiled
+//! calls list; on record it is every record, with its begin and end.
+
+use crate::ask;
+use crate::failure::Failure;
+use crate::file::Lake;
+use crate::records;
+use crate::refused::ranges;
+use crate::values::columns::type_name;
+use gukoremo::number::ABSENT;
+use gukoremo::record::{ColumnRecord, SchemaRecord, StatisticsRecord, TableRecord};
+use gukoremo::{DataFileRecord, DeleteFileRecord, SnapshotId, SnapshotRecord, Uuid};
+
+/// One thing, with what is said of it.
+pub struct Node {
+    pub kind: &'static str,
+    /// The snapshot that shows it; none for a record.
+    pub snapshot: Option<u64>,
+    /// Where it is: `main.diary`, or a path below the data path.
+    pub place: String,
+    pub name: String,
+    pub id: u64,
+    pub fields: Vec<(&'static str, String)>,
+    /// Rows or positions, in order.
+    pub numbers: Option<(&'static str, Vec<u64>)>,
+    pub parts: Vec<Node>,
+}
+
+impl Node {
+    /// All that is said of it, in a line.
+    pub fn summary(&self) -> String {
+        let fields = self.fields.iter().map(|(field, value)| format!("{field} {value}"));
+        let numbers =
+            self.numbers.iter().map(|(what, numbers)| format!("{what} {}", if numbers.is_empty() { "none".to_string() } else { ranges(numbers) }));
+        fields.chain(numbers).collect::<Vec<String>>().join(", ")
+    }
+}
+
+/// The retained snapshots. Refused where the tables are not sound.
+pub fn snapshots(lake: &Lake) -> Result<Vec<Node>, Failure> {
+    ask::by_time(lake, u64::MAX)?;
+    let node = |one: SnapshotRecord| Node {
+        kind: "snapshot",
+        snapshot: Some(one.id.0),
+        place: String::new(),
+        name: one.id.0.to_string(),
+        id: one.id.0,
+        fields: vec![
+            ("time", one.time.to_string()),
+            ("change", format!("{} {}", records::kind_name(one.kind), one.object.0)),
+            ("schema_version", one.schema_version.to_string()),
+            ("next_catalog_id", one.next_catalog_id.0.to_string()),
+            ("next_file_id", one.next_file_id.0.to_string()),
+        ],
+        numbers: None,
+        parts: Vec::new(),
+    };
+    Ok(records::snapshots(lake).map(node).collect())
+}
+
+/// What a snapshot shows.
+pub fn shown(lake: &Lake, at: SnapshotId) -> Result<Vec<Node>, Failure> {
+    Reader::new(lake, Some(at)).schemas()
+}
+
+/// The tables that a snapshot shows, each with its rows alone.
+pub fn rows(lake: &Lake, at: SnapshotId) -> Result<Vec<Node>, Failure> {
+    let reader = Reader::new(lake, Some(at));
+    let mut all = Vec::new();
+    for (schema, schema_name) in records::schemas(lake).filter(|(schema, _)| records::live(schema.begin, schema.end, at)) {
+        for (table, name) in reader.listed_tables(&schema)? {
+            let node = reader.node("table", format!("{schema_name}.{name}"), name.clone(), table.id.0);
+            all.push(Node { numbers: reader.rows(table)?, ..node });
+        }
+    }
+    Ok(all)
+}
+
+/// Everything on record, of tables that a call has accepted.
+pub fn on_record(lake: &Lake) -> Result<Vec<Node>, Failure> {
+    let reader = Reader::new(lake, None);
+    let mut all = reader.schemas()?;
+    all.extend(records::scheduled(lake).map(|one| {
+        let node = reader.node("scheduled file", one.uuid.path(), one.uuid.path(), one.file.0);
+        let fields = vec![("path", one.uuid.path()), ("id", one.file.0.to_string()), ("schedule_start", one.schedule_start.to_string())];
+        Node { fields, ..node }
+    }));
+    Ok(all)
+}
+
+/// A word, or none where there is no such.
+fn optional(is_there: bool, word: impl ToString) -> String {
+    if is_there {
+        word.to_string()
+    } else {
+        "none".to_string()
+    }
+}
+
+struct Reader<'a> {
+    lake: &'a Lake,
+    /// None is everything on record.
+    at: Option<SnapshotId>,
+    tables: Vec<(TableRecord, String)>,
+    columns: Vec<(ColumnRecord, String)>,
+}
+
+impl Reader<'_> {
+    fn new(lake: &Lake, at: Option<SnapshotId>) -> Reader<'_> {
+        Reader { lake, at, tables: records::tables(lake).collect(), columns: records::columns(lake).collect() }
+    }
+
+    fn node(&self, kind: &'static str, place: String, name: String, id: u64) -> Node {
+        Node { kind, snapshot: self.at.map(|at| at.0), place, name, id, fields: Vec::new(), numbers: None, parts: Vec::new() }
+    }
+
+    /// A record's first and last words: what it is called, its id, and on record its life. A later snapshot may still end what an earlier one shows.
+    fn fields(
+        &self,
+        name: (&'static str, &str),
+        id: u64,
+        own: &[(&'static str, String)],
+        life: (SnapshotId, SnapshotId),
+    ) -> Vec<(&'static str, String)> {
+        let mut fields = vec![(name.0, name.1.to_string()), ("id", id.to_string())];
+        fields.extend_from_slice(own);
+        if self.at.is_none() {
+            fields.extend([("begin", life.0 .0.to_string()), ("end", optional(life.1 .0 != ABSENT, life.1 .0))]);
+        }
+        fields
+    }
+
+    fn schemas(&self) -> Result<Vec<Node>, Failure> {
+        let listed = self.at.map(|at| ask::schemas(self.lake, at)).transpose()?;
+        let mut nodes = Vec::new();
+        for (one, name) in records::schemas(self.lake).filter(|(one, _)| listed.as_ref().is_none_or(|ids| ids.contains(&one.id))) {
+            let fields = self.fields(("name", &name), one.id.0, &[], (one.begin, one.end));
+            let parts = self.tables(&one, &name)?;
+            nodes.push(Node { fields, parts, ..self.node("schema", name.clone(), name, one.id.0) });
+        }
+        Ok(nodes)
+    }
+
+    fn listed_tables(&self, schema: &SchemaRecord) -> Result<Vec<&(TableRecord, String)>, Failure> {
+        let listed = self.at.map(|at| ask::tables(self.lake, at, schema.id)).transpose()?;
+        let of_schema = self.tables.iter().filter(|(one, _)| one.schema == schema.id);
+        Ok(of_schema.filter(|(one, _)| listed.as_ref().is_none_or(|ids| ids.contains(&one.id))).collect())
+    }
+
+    fn rows(&self, table: &TableRecord) -> Result<Option<(&'static str, Vec<u64>)>, Failure> {
+        let listed = self.at.map(|at| ask::rows(self.lake, at, table.id)).transpose()?;
+        Ok(listed.map(|rows| ("rows", rows.into_iter().map(|row| row.0).collect())))
+    }
+
+    fn tables(&self, schema: &SchemaRecord, schema_name: &str) -> Result<Vec<Node>, Failure> {
+        let mut nodes = Vec::new();
+        for (one, name) in self.listed_tables(schema)? {
+            // inserts after a snapshot move it
+            let next_row_id = [("next_row_id", one.next_row_id.0.to_string())];
+            let own = if self.at.is_none() { &next_row_id[..] } else { &[] };
+            let fields = self.fields(("name", name), one.id.0, own, (one.begin, one.end));
+            let place = format!("{schema_name}.{name}");
+            let mut parts = self.columns(one, &place)?;
+            parts.extend(self.data_files(one, &format!("{schema_name}/{name}/"))?);
+            nodes.push(Node { fields, numbers: self.rows(one)?, parts, ..self.node("table", place, name.clone(), one.id.0) });
+        }
+        Ok(nodes)
+    }
+
+    fn columns(&self, table: &TableRecord, table_place: &str) -> Result<Vec<Node>, Failure> {
+        let listed = self.at.map(|at| ask::columns(self.lake, at, table.id)).transpose()?;
+        let of_table = self.columns.iter().filter(|(one, _)| one.table == table.id);
+        let node = |(one, name): &(ColumnRecord, String)| {
+            let own = [
+                ("order", one.order.to_string()),
+                ("type", type_name(one.type_code).to_string()),
+                ("nulls_allowed", (one.nulls_allowed == 1).to_string()),
+            ];
+            let fields = self.fields(("name", name), one.id, &own, (one.begin, one.end));
+            Node { fields, ..self.node("column", format!("{table_place}.{name}"), name.clone(), one.id) }
+        };
+        Ok(of_table.filter(|(one, _)| listed.as_ref().is_none_or(|ids| ids.contains(&one.id))).map(node).collect())
+    }
+
+    fn data_files(&self, table: &TableRecord, folder: &str) -> Result<Vec<Node>, Failure> {
+        let listed = self.at.map(|at| ask::files(self.lake, at, table.id, None)).transpose()?;
+        let is_listed = |one: &DataFileRecord| listed.as_ref().is_none_or(|pairs| pairs.iter().any(|pair| pair.data_file == one.id));
+        let deletes_of = |one: &DataFileRecord, deletes: &DeleteFileRecord| {
+            deletes.data_file == one.id && listed.as_ref().is_none_or(|pairs| pairs.iter().any(|pair| pair.delete_file == Some(deletes.id)))
+        };
+        let node = |one: DataFileRecord| {
+            let mut parts = self.statistics(&one, folder);
+            let deletes = records::positions(self.lake).filter(|(deletes, _)| deletes_of(&one, deletes));
+            parts.extend(deletes.map(|(deletes, positions)| self.delete_file(&deletes, positions, folder)));
+            let own = [("record_count", one.record_count.to_string()), ("row_id_start", one.row_id_start.0.to_string())];
+            let fields = self.fields(("path", &one.uuid.path()), one.id.0, &own, (one.begin, one.end));
+            Node { fields, parts, ..self.file("data file", one.uuid, folder, one.id.0) }
+        };
+        Ok(records::data_files(self.lake).filter(|one| one.table == table.id && is_listed(one)).map(node).collect())
+    }
+
+    fn file(&self, kind: &'static str, uuid: Uuid, folder: &str, id: u64) -> Node {
+        self.node(kind, format!("{folder}{}", uuid.path()), uuid.path(), id)
+    }
+
+    fn delete_file(&self, one: &DeleteFileRecord, positions: &[u64], folder: &str) -> Node {
+        let own = [("delete_count", one.delete_count.to_string())];
+        let fields = self.fields(("path", &one.uuid.path()), one.id.0, &own, (one.begin, one.end));
+        Node { fields, numbers: Some(("positions", positions.to_vec())), ..self.file("delete file", one.uuid, folder, one.id.0) }
+    }
+
+    /// A record for each column; a column's life is its table's.
+    fn statistics(&self, file: &DataFileRecord, folder: &str) -> Vec<Node> {
+        let column_name = |id: u64| {
+            let found = self.columns.iter().find(|(column, _)| column.table == file.table && column.id == id);
+            found.map_or(id.to_string(), |(_, name)| name.clone())
+        };
+        let node = |one: StatisticsRecord| {
+            let name = column_name(one.column);
+            let fields = vec![
+                ("null_count", one.null_count.to_string()),
+                ("min", optional(one.has_min == 1, one.min as i64)),
+                ("max", optional(one.has_max == 1, one.max as i64)),
+            ];
+            Node { fields, ..self.node("statistics", format!("{folder}{}, column {name}", file.uuid.path()), name, one.column) }
+        };
+        records::statistics(self.lake).filter(|one| one.data_file == file.id).map(node).collect()
+    }
+}
