@@ -309,6 +309,13 @@ fn others() -> Vec<Command> {
                     .value_name("PATH/")
                     .default_value("data/")
                     .help("The data_path of ducklake_metadata, under which the paths of the files lie"),
+            )
+            .arg(
+                Arg::new("storage")
+                    .long("storage")
+                    .value_name("LIST")
+                    .value_parser(value_parser!(PathBuf))
+                    .help("What is in the storage: a line for each file, its size in bytes, a space, its path below the data path"),
             ),
         Command::new("play")
             .about("Play raw calls from a script, a line each; for suppliers and tests")

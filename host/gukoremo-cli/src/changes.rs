@@ -8,6 +8,7 @@ use crate::readings::form;
 use crate::records;
 use crate::refused::{ranges, refuse, Asked};
 use crate::runs;
+use crate::storage;
 use crate::values::columns::Column;
 use crate::values::names::{Reference, TableReference};
 use crate::values::statistics::{self, Statistics};
@@ -64,10 +65,15 @@ const CHANGES_WAIT: &str = "until then a change is refused with 8 unless it has 
 
 /// Says what was done, once it is on the disk; and what waits for the time, where that is ahead of the clock.
 fn say(said: Said, given: &ArgMatches, waits: &str) -> Result<u8, Failure> {
+    warn_of_time(given, waits);
+    said.print(form(given)).map(|()| 0).map_err(|failure| failure.after_change(&said.sentence))
+}
+
+/// A time ahead of the clock has a warning, and what waits for it.
+fn warn_of_time(given: &ArgMatches, waits: &str) {
     if let Some(time) = given.get_one::<u64>("time").filter(|time| **time > times::now()) {
         let _ = writeln!(std::io::stderr(), "gukoremo: warning: the time {} is ahead of the clock: {waits}", times::both(*time));
     }
-    said.print(form(given)).map(|()| 0).map_err(|failure| failure.after_change(&said.sentence))
 }
 
 fn init(given: &ArgMatches) -> Result<u8, Failure> {
@@ -224,15 +230,16 @@ fn file_fields(table: CatalogId, file: u64, uuid: Uuid) -> Vec<(&'static str, Ce
 
 fn expire(writing: &Writing, mut lake: Lake, given: &ArgMatches) -> Result<u8, Failure> {
     let (ids, time): (&Vec<u64>, u64) = (value(given, "snapshots"), time(given)?);
-    let before = records::scheduled(&lake).count();
+    let (before, paths) = (records::scheduled(&lake).count(), storage::paths(&lake));
     let snapshots: Vec<SnapshotId> = ids.iter().map(|id| SnapshotId(*id)).collect();
     timed(|| lake.expire(&snapshots, time)).map_err(|refusal| refuse(refusal, &lake, &Asked { list: ids, ..Asked::default() }))?;
     let scheduled: Vec<u64> = records::scheduled(&lake).skip(before).map(|file| file.file.0).collect();
     writing.replace(lake)?;
     let files = if scheduled.is_empty() { "no file is scheduled".to_string() } else { format!("files scheduled: {}", ranges(&scheduled)) };
     let sentence = format!("expired {}; {files}", ranges(ids));
-    let fields = vec![("expired", Cell::Number(ids.len() as u64)), ("time", Cell::Number(time)), ("scheduled", Cell::Number(scheduled.len() as u64))];
-    say(Said { sentence, fields }, given, "until then a cleanup hands these files out only with a later --before.")
+    warn_of_time(given, "until then a cleanup hands these files out only with a later --before.");
+    let said = storage::say_scheduled(&sentence, &scheduled, &paths, form(given));
+    said.map(|()| 0).map_err(|failure| failure.after_change(&sentence))
 }
 
 /// The list is out, and on the disk where it goes to a file, before the catalogue forgets the files: whatever happens in between, no file is forgotten that was not handed out.
@@ -240,7 +247,7 @@ fn cleanup(writing: &Writing, mut lake: Lake, given: &ArgMatches) -> Result<u8, 
     let before = given.get_one("before").copied().unwrap_or_else(times::now);
     let handed = timed(|| lake.cleanup(before)).map_err(|refusal| refuse(refusal, &lake, &Asked::default()))?;
     let prepared = writing.prepare(lake)?;
-    let mut list = List::new(&["file", "path"]);
+    let mut list = List { note: storage::NO_TABLE, ..List::new(&["file", "path_in_table"]) };
     list.rows = handed.iter().map(|file| vec![Cell::Number(file.file.0), Cell::Text(file.uuid.path())]).collect();
     list.hand_out(form(given)).map_err(|why| {
         Failure::new(code::IO, "The list could not be written, so the files are still scheduled.")

@@ -6,6 +6,7 @@ use crate::failure::Failure;
 use crate::file::Lake;
 use crate::records;
 use crate::refused::ranges;
+use crate::storage;
 use crate::values::columns::type_name;
 use gukoremo::number::ABSENT;
 use gukoremo::record::{ColumnRecord, SchemaRecord, StatisticsRecord, TableRecord};
@@ -82,7 +83,7 @@ pub fn on_record(lake: &Lake) -> Result<Vec<Node>, Failure> {
     let mut all = reader.schemas()?;
     all.extend(records::scheduled(lake).map(|one| {
         let node = reader.node("scheduled file", one.uuid.path(), one.uuid.path(), one.file.0);
-        let fields = vec![("path", one.uuid.path()), ("id", one.file.0.to_string()), ("schedule_start", one.schedule_start.to_string())];
+        let fields = vec![("path_in_table", one.uuid.path()), ("id", one.file.0.to_string()), ("schedule_start", one.schedule_start.to_string())];
         Node { fields, ..node }
     }));
     Ok(all)
@@ -161,7 +162,7 @@ impl Reader<'_> {
             let fields = self.fields(("name", name), one.id.0, own, (one.begin, one.end));
             let place = format!("{schema_name}.{name}");
             let mut parts = self.columns(one, &place)?;
-            parts.extend(self.data_files(one, &format!("{schema_name}/{name}/"))?);
+            parts.extend(self.data_files(one, &storage::folder(schema_name, name))?);
             nodes.push(Node { fields, numbers: self.rows(one)?, parts, ..self.node("table", place, name.clone(), one.id.0) });
         }
         Ok(nodes)

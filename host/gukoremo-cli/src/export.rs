@@ -6,6 +6,7 @@ use crate::failure::{code, Failure};
 use crate::file::{self, Lake};
 use crate::list::output;
 use crate::records;
+use crate::storage::Storage;
 use crate::values::columns::type_name;
 use crate::values::times;
 use clap::ArgMatches;
@@ -33,15 +34,28 @@ pub fn run(given: &ArgMatches) -> Result<u8, Failure> {
         return Err(Failure::new(code::EXISTS, format!("{} is there already, and was left as it is.", out.display()))
             .advice("give another path, or move that file away first."));
     }
-    write_whole(&lake, out, data_path)?;
+    let storage = given.get_one::<PathBuf>("storage").map(|list| Storage::read(list)).transpose()?;
+    let scheduled = scheduled_paths(&lake, storage.as_ref())?;
+    write_whole(&lake, out, data_path, &scheduled)?;
     output(|written| writeln!(written, "{} is a DuckLake 0.3 catalogue in SQLite.", out.display()))?;
     Ok(0)
 }
 
+/// The paths of the scheduled files below the data path. Their records do not have them, so the storage is asked.
+fn scheduled_paths(lake: &Lake, storage: Option<&Storage>) -> Result<Vec<String>, Failure> {
+    let path = |name: String| match storage {
+        Some(storage) => storage.find(&name).map(str::to_string),
+        None => Err(Failure::new(code::USAGE, format!("In which folder {name} lies is not known, and nothing was written."))
+            .why("it is scheduled, and a scheduled record does not name its table.")
+            .advice("give --storage with a list of what is in the storage, or hand the scheduled files out first with 'gukoremo cleanup'.")),
+    };
+    records::scheduled(lake).map(|one| path(one.uuid.path())).collect()
+}
+
 /// Written beside and renamed, so that a file of that name is whole.
-fn write_whole(lake: &Lake, out: &Path, data_path: &str) -> Result<(), Failure> {
+fn write_whole(lake: &Lake, out: &Path, data_path: &str, scheduled: &[String]) -> Result<(), Failure> {
     let (new, _) = crate::beside::fresh(out, 0o644, |_| ()).map_err(|error| Failure::io(out, "written", error))?;
-    let done = fill(lake, &new, data_path)
+    let done = fill(lake, &new, data_path, scheduled)
         .map_err(|error| Failure::new(code::IO, format!("{} could not be written.", out.display())).why(format!("SQLite says: {error}.")));
     let done = done.and_then(|()| fs::rename(&new, out).map_err(|error| Failure::io(out, "written", error)));
     if done.is_err() {
@@ -50,7 +64,7 @@ fn write_whole(lake: &Lake, out: &Path, data_path: &str) -> Result<(), Failure> 
     done
 }
 
-fn fill(lake: &Lake, path: &Path, data_path: &str) -> rusqlite::Result<()> {
+fn fill(lake: &Lake, path: &Path, data_path: &str, scheduled: &[String]) -> rusqlite::Result<()> {
     let mut connection = Connection::open(path)?;
     let into = connection.transaction()?;
     into.execute_batch(SCHEMA)?;
@@ -58,7 +72,7 @@ fn fill(lake: &Lake, path: &Path, data_path: &str) -> rusqlite::Result<()> {
     snapshots(lake, &into)?;
     schemas(lake, &into)?;
     tables(lake, &into)?;
-    files(lake, &into)?;
+    files(lake, &into, scheduled)?;
     statistics(lake, &into)?;
     table_statistics(lake, &into)?;
     into.commit()?;
@@ -170,7 +184,7 @@ fn tables(lake: &Lake, into: &Transaction<'_>) -> rusqlite::Result<()> {
 }
 
 /// Files by ascending id, which is their order in the table.
-fn files(lake: &Lake, into: &Transaction<'_>) -> rusqlite::Result<()> {
+fn files(lake: &Lake, into: &Transaction<'_>, scheduled: &[String]) -> rusqlite::Result<()> {
     let mut insert = into.prepare(
         "INSERT INTO ducklake_data_file (data_file_id, table_id, begin_snapshot, end_snapshot, file_order, path, path_is_relative, file_format, \
          record_count, row_id_start) \
@@ -188,10 +202,10 @@ fn files(lake: &Lake, into: &Transaction<'_>) -> rusqlite::Result<()> {
         let (own, data_file, count) = (id(one.id.0), id(one.data_file.0), id(one.delete_count));
         insert.execute(params![own, id(one.table.0), id(one.begin.0), end(one.end.0), data_file, one.uuid.path(), count])?;
     }
-    // a scheduled record has no table, so its path is the file's name alone
+    // "The file name is either relative to the data_path value in ducklake_metadata or absolute."
     let mut insert = into.prepare("INSERT INTO ducklake_files_scheduled_for_deletion VALUES (?, ?, true, ?)")?;
-    for one in records::scheduled(lake) {
-        insert.execute(params![id(one.file.0), one.uuid.path(), timestamp(one.schedule_start)])?;
+    for (one, path) in records::scheduled(lake).zip(scheduled) {
+        insert.execute(params![id(one.file.0), path, timestamp(one.schedule_start)])?;
     }
     Ok(())
 }

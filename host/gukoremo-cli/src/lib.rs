@@ -24,6 +24,7 @@ pub mod records;
 pub mod refused;
 pub mod rights;
 pub mod runs;
+pub mod storage;
 pub mod values;
 
 use clap::ArgMatches;

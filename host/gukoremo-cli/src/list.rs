@@ -75,11 +75,13 @@ fn quoted(text: &str) -> String {
 pub struct List {
     pub columns: Vec<&'static str>,
     pub rows: Vec<Vec<Cell>>,
+    /// Said on a terminal, below the rows.
+    pub note: &'static str,
 }
 
 impl List {
     pub fn new(columns: &[&'static str]) -> List {
-        List { columns: columns.to_vec(), rows: Vec::new() }
+        List { columns: columns.to_vec(), rows: Vec::new(), note: "" }
     }
 
     pub fn print(&self, form: Form) -> Result<(), Failure> {
@@ -144,6 +146,9 @@ impl List {
         for row in &shown {
             line(&row.iter().map(String::as_str).collect::<Vec<&str>>())?;
         }
+        if !self.note.is_empty() && !self.rows.is_empty() {
+            writeln!(out, "{}", self.note)?;
+        }
         Ok(())
     }
 }
@@ -164,7 +169,7 @@ impl Said {
         let (columns, row): (Vec<&'static str>, Vec<Cell>) = self.fields.iter().cloned().unzip();
         match form {
             Form::Terminal => output(|out| writeln!(out, "{}", self.sentence)),
-            Form::Csv => List { columns, rows: vec![row] }.print(form),
+            Form::Csv => List { rows: vec![row], ..List::new(&columns) }.print(form),
             Form::Json => output(|out| writeln!(out, "{}", object(&columns, &row))),
         }
     }

@@ -5,6 +5,7 @@ use crate::failure::Failure;
 use crate::file::{self, Lake};
 use crate::list::{output, Cell, Form, List, Said};
 use crate::records;
+use crate::storage;
 use crate::values::columns::type_name;
 use crate::values::names::{Reference, TableReference};
 use crate::values::{times, uuids};
@@ -69,7 +70,7 @@ fn snapshots(lake: &Lake) -> Result<List, Failure> {
 
 fn scheduled(lake: &Lake) -> Result<List, Failure> {
     ask::by_time(lake, u64::MAX)?;
-    let mut list = List::new(&["file", "path", "schedule_start", "when"]);
+    let mut list = List { note: storage::NO_TABLE, ..List::new(&["file", "path_in_table", "schedule_start", "when"]) };
     for file in records::scheduled(lake) {
         list.rows.push(vec![number(file.file.0), text(file.uuid.path()), number(file.schedule_start), text(times::rfc(file.schedule_start))]);
     }
@@ -205,7 +206,8 @@ fn lookup(lake: &Lake, id: FileId) -> Result<Said, Failure> {
         ("end", Cell::end(words[DataFileRecord::END])),
     ];
     fields.extend(own);
-    fields.extend([("uuid", text(uuids::show(uuid))), ("path", text(uuid.path()))]);
+    let path = storage::paths(lake).remove(&id.0).unwrap_or_default();
+    fields.extend([("uuid", text(uuids::show(uuid))), ("path", text(path))]);
     let lines: Vec<String> = fields.iter().map(|(name, cell)| format!("{name:<13} {}", cell.plain()).trim_end().to_string()).collect();
     Ok(Said { sentence: lines.join("\n"), fields })
 }

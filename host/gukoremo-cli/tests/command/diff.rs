@@ -122,7 +122,7 @@ fn all_that_is_on_record() {
     let scheduled = "ducklake-00000000-0000-0000-0000-000000000002.parquet";
     assert_eq!(diff(&ours, &theirs, &["--all"]), (vec![format!("scheduled file schedule_start,,{scheduled},180,181")], Some(1)));
     answer(&["cleanup", text(&theirs), "--before", "200"]);
-    let line = format!("scheduled file,,{scheduled},\"path {scheduled}, id 1, schedule_start 180\",");
+    let line = format!("scheduled file,,{scheduled},\"path_in_table {scheduled}, id 1, schedule_start 180\",");
     assert_eq!(diff(&ours, &theirs, &["--all"]), (vec![line], Some(1)));
 
     let (ours, theirs) = (folder.path("c.lake"), folder.path("d.lake"));

@@ -1,6 +1,6 @@
 //! The published queries, on what `export` writes, give the lists that the calls give: at every retained snapshot of random catalogues.
 
-use crate::support::{answer, bytes, text, Chance, Folder};
+use crate::support::{answer, bytes, diary, gukoremo, text, Chance, Folder};
 use gukoremo::{Catalog, CatalogId, ColumnType, FileId, NewColumn, NewStatistics, OwnedTables, SnapshotId, Uuid};
 use gukoremo_cli::file::Lake;
 use gukoremo_cli::{records, runs};
@@ -51,6 +51,20 @@ fn random(chance: &mut Chance) -> Lake {
     lake
 }
 
+/// A storage with the catalogue's files: a size and a path each. Which folder a scheduled file is in, the catalogue does not know.
+fn storage(lake: &Lake) -> String {
+    let schema = |id: CatalogId| records::schemas(lake).find(|(schema, _)| schema.id == id).expect("on record").1;
+    let folder = |id: CatalogId| {
+        let (table, name) = records::tables(lake).find(|(table, _)| table.id == id).expect("on record");
+        format!("{}/{name}", schema(table.schema))
+    };
+    let data = records::data_files(lake).map(|file| (file.id, folder(file.table), file.uuid));
+    let delete = records::delete_files(lake).map(|file| (file.id, folder(file.table), file.uuid));
+    let scheduled = records::scheduled(lake).map(|file| (file.file, "main/gone".to_string(), file.uuid));
+    let files = data.chain(delete).chain(scheduled);
+    files.map(|(id, folder, uuid)| format!("{} {folder}/{}\n", 1000 + id.0, uuid.path())).collect()
+}
+
 fn rows<Item>(from: &Connection, query: &str, given: impl rusqlite::Params, item: impl FnMut(&Row<'_>) -> rusqlite::Result<Item>) -> Vec<Item> {
     let mut statement = from.prepare(query).expect("a query");
     let rows = statement.query_map(given, item).expect("rows");
@@ -67,7 +81,9 @@ fn published_queries_give_the_same_lists() {
         let (tables, counts) = lake.into_parts();
         std::fs::write(&path, bytes(Catalog::resume(tables.clone(), counts))).expect("written");
         let lake = Catalog::resume(tables, counts);
-        answer(&["export", text(&path), text(&out), "--data-path", "s3://shop/"]);
+        let list = folder.path(&format!("{seed}.list"));
+        std::fs::write(&list, storage(&lake)).expect("written");
+        answer(&["export", text(&path), text(&out), "--data-path", "s3://shop/", "--storage", text(&list)]);
         let from = Connection::open(&out).expect("SQLite");
         let names = rows(&from, "SELECT count(*) FROM sqlite_master WHERE type = 'table'", [], |row| row.get::<_, i64>(0));
         assert_eq!(names, [22], "\"DuckLake 0.3 uses 22 tables\"");
@@ -122,4 +138,59 @@ fn compare_table(lake: &Lake, from: &Connection, at: SnapshotId, id: u64) -> usi
         assert_eq!(filtered, expected);
     }
     6
+}
+
+/// A path of document 000, 'Paths': below the one of its parent where it is relative.
+const RESOLVED: &str = "SELECT iif(t.path_is_relative, iif(s.path_is_relative, (SELECT value FROM ducklake_metadata WHERE key = 'data_path'), '') || s.path, '') \
+    || t.path || f.path FROM ducklake_table t JOIN ducklake_schema s USING (schema_id) JOIN FILES f USING (table_id) WHERE f.path_is_relative ORDER BY 1";
+/// "The file name is either relative to the data_path value in ducklake_metadata or absolute."
+const SCHEDULED: &str = "SELECT iif(path_is_relative, (SELECT value FROM ducklake_metadata WHERE key = 'data_path'), '') || path \
+    FROM ducklake_files_scheduled_for_deletion ORDER BY 1";
+
+/// The diary's files lie in a folder; one is scheduled. Each row of the export is one of them, and each of them is a row.
+#[test]
+fn rows_resolve_to_the_files_that_are_there() {
+    let folder = Folder::new("storage");
+    let (path, out, list) = (folder.path("s.lake"), folder.path("s.sqlite"), folder.path("s.list"));
+    diary(&path);
+    let name = |number: usize| format!("ducklake-00000000-0000-0000-0000-00000000000{number}.parquet");
+    let lake = gukoremo_cli::file::read(&path).expect("a catalogue");
+    let mut there: Vec<String> = Vec::new();
+    for (at, line) in storage(&lake).lines().enumerate() {
+        let file = folder.path(&format!("data/{}", line.split_once(' ').expect("a size").1));
+        std::fs::create_dir_all(file.parent().expect("a folder")).expect("made");
+        std::fs::write(&file, vec![0; 10 + at]).expect("written");
+        there.push(text(&file).to_string());
+    }
+    // the expiry is the last to know the table
+    assert_eq!(answer(&["expire", text(&path), "4", "--time", "160"]), format!("expired 4; files scheduled: 2\n  2  main/diary/{}\n", name(3)));
+    let said = answer(&["scheduled", text(&path)]);
+    assert!(said.contains("path_in_table") && said.contains("does not name its table"), "{said}");
+    assert!(answer(&["lookup", text(&path), "3"]).contains(&format!("path          main/diary/{}\n", name(4))));
+
+    let data_path = format!("{}/", text(&folder.path("data")));
+    let output = gukoremo(&["export", text(&path), text(&out), "--data-path", &data_path]);
+    assert_eq!(output.status.code(), Some(64));
+    assert!(String::from_utf8_lossy(&output.stderr).contains(&format!("In which folder {} lies is not known", name(3))));
+    assert!(!out.exists());
+    let listed = |files: &[String]| {
+        let line = |file: &String| format!("{} {}\n", std::fs::metadata(file).expect("there").len(), &file[data_path.len()..]);
+        std::fs::write(&list, files.iter().map(line).collect::<String>()).expect("written");
+    };
+    let export = ["export", text(&path), text(&out), "--data-path", &data_path, "--storage", text(&list)];
+    there.sort();
+    let without: Vec<String> = there.iter().filter(|file| !file.ends_with(&name(3))).cloned().collect();
+    listed(&without);
+    assert_eq!(gukoremo(&export).status.code(), Some(65));
+    listed(&there);
+    answer(&export);
+    let from = Connection::open(&out).expect("SQLite");
+    let mut found = rows(&from, SCHEDULED, [], |row| row.get::<_, String>(0));
+    assert_eq!(found.len(), 1);
+    for files in ["ducklake_data_file", "ducklake_delete_file"] {
+        found.extend(rows(&from, &RESOLVED.replace("FILES", files), [], |row| row.get::<_, String>(0)));
+    }
+    found.sort();
+    assert_eq!(found, there);
+    assert_eq!(answer(&["cleanup", text(&path), "--before", "161", "--csv"]), format!("file,path_in_table\n2,{}\n", name(3)));
 }

@@ -1,0 +1,106 @@
+//! Where files lie below the data path: "By default, this path is the name of the schema", then that of the table, then `ducklake-{uuid}.parquet`. A scheduled
+//! record has no table, so of its file only the path in the table's folder is known; a list of what is in the storage says the rest.
+
+use crate::failure::{code, Failure};
+use crate::file::Lake;
+use crate::list::{Cell, Form, List, Said};
+use crate::records;
+use std::collections::BTreeMap;
+use std::fs;
+use std::path::Path;
+
+/// Below a list of scheduled files.
+pub const NO_TABLE: &str = "A scheduled record does not name its table: a path is below the folder that 'gukoremo expire' said.";
+
+pub fn folder(schema: &str, table: &str) -> String {
+    format!("{schema}/{table}/")
+}
+
+/// The paths of the data and delete files on record, by id.
+pub fn paths(lake: &Lake) -> BTreeMap<u64, String> {
+    let schemas: BTreeMap<u64, String> = records::schemas(lake).map(|(schema, name)| (schema.id.0, name)).collect();
+    let name = |id: u64| schemas.get(&id).cloned().unwrap_or_else(|| id.to_string());
+    let folders: BTreeMap<u64, String> = records::tables(lake).map(|(table, own)| (table.id.0, folder(&name(table.schema.0), &own))).collect();
+    let data = records::data_files(lake).map(|file| (file.id, file.table, file.uuid));
+    let files = data.chain(records::delete_files(lake).map(|file| (file.id, file.table, file.uuid)));
+    files.map(|(id, table, uuid)| (id.0, format!("{}{}", folders.get(&table.0).map_or("", String::as_str), uuid.path()))).collect()
+}
+
+/// What an expiry says: the files that it scheduled, by the paths that they had on record. It is the last to know their tables.
+pub fn say_scheduled(sentence: &str, files: &[u64], paths: &BTreeMap<u64, String>, form: Form) -> Result<(), Failure> {
+    let path = |id: &u64| paths.get(id).cloned().unwrap_or_default();
+    if form == Form::Terminal {
+        let lines: Vec<String> = [sentence.to_owned()].into_iter().chain(files.iter().map(|id| format!("  {id}  {}", path(id)))).collect();
+        return Said { sentence: lines.join("\n"), fields: Vec::new() }.print(form);
+    }
+    let mut list = List::new(&["file", "path"]);
+    list.rows = files.iter().map(|id| vec![Cell::Number(*id), Cell::Text(path(id))]).collect();
+    list.print(form)
+}
+
+/// What is in the storage: the sizes of files in bytes, by their path below the data path.
+#[derive(Debug, PartialEq, Eq)]
+pub struct Storage(BTreeMap<String, u64>);
+
+impl Storage {
+    pub fn read(path: &Path) -> Result<Storage, Failure> {
+        Storage::parse(&fs::read_to_string(path).map_err(|error| Failure::io(path, "read", error))?)
+    }
+
+    /// Lines of a size, a space and a path.
+    fn parse(text: &str) -> Result<Storage, Failure> {
+        let wrong = |at: usize, why: &str| {
+            Failure::new(code::DATA, format!("line {} of the list of what is in the storage: {why}.", at + 1)).advice(
+                "give a line for each file: its size in bytes, a space, its path below the data path; as find DATA -type f -printf '%s %P\\n' does.",
+            )
+        };
+        let mut sizes = BTreeMap::new();
+        for (at, line) in text.lines().enumerate() {
+            let parts = line.split_once(' ').and_then(|(size, path)| Some((i64::try_from(size.parse::<u64>().ok()?).ok()?, path)));
+            let (size, path) = parts.filter(|(_, path)| !path.is_empty()).ok_or_else(|| wrong(at, "it is no size and path"))?;
+            if sizes.insert(path.to_string(), size as u64).is_some() {
+                return Err(wrong(at, &format!("{path} is there twice")));
+            }
+        }
+        Ok(Storage(sizes))
+    }
+
+    /// The size of a file on record.
+    pub fn size(&self, path: &str) -> Result<u64, Failure> {
+        self.0.get(path).copied().ok_or_else(|| missing(path))
+    }
+
+    /// The one path that ends in this name.
+    pub fn find(&self, name: &str) -> Result<&str, Failure> {
+        let found: Vec<&str> = self.0.keys().map(String::as_str).filter(|path| path.rsplit('/').next() == Some(name)).collect();
+        match found[..] {
+            [] => Err(missing(name)),
+            [path] => Ok(path),
+            [one, other, ..] => Err(Failure::new(code::DATA, format!("{one} and {other} are both in the storage."))
+                .why(format!("{name} is scheduled, and its record does not say in which folder."))
+                .advice("leave out of the list the one that is not this catalogue's.")),
+        }
+    }
+}
+
+fn missing(path: &str) -> Failure {
+    Failure::new(code::DATA, format!("{path} is not in the list of what is in the storage."))
+        .why("the catalogue has that file.")
+        .advice("see whether the list is of the whole data path, and whether the file is there.")
+}
+
+#[cfg(test)]
+mod tests {
+    use super::Storage;
+
+    #[test]
+    fn lists() {
+        let storage = Storage::parse("12 main/diary/a.parquet\n7 main/wall/b c.parquet\n9 other/wall/a.parquet\n").expect("a list");
+        assert_eq!(storage.size("main/diary/a.parquet").ok(), Some(12));
+        assert_eq!(storage.find("b c.parquet").ok(), Some("main/wall/b c.parquet"));
+        assert!(storage.size("a.parquet").is_err() && storage.find("a.parquet").is_err() && storage.find("c.parquet").is_err());
+        for bad in ["a.parquet", "12", "12 ", "-1 a", "9223372036854775808 a", "1 a\n\n", "1 a\n2 a"] {
+            assert!(Storage::parse(bad).is_err(), "{bad}");
+        }
+    }
+}
