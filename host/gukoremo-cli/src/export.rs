@@ -1,18 +1,18 @@
-//! `export`: the catalogue as a DuckLake 0.3 catalogue in SQLite. Each table is filled as document 000 describes it; what the catalogue does not hold, such as
-//! the size of a file in bytes, is NULL, and tables of what it leaves outside are empty.
+//! `export`: the catalogue as a DuckLake 0.3 catalogue in SQLite. Each table is filled as document 000 describes it. The sizes of files and the folders of
+//! scheduled ones come from a list of the storage; what is left outside is NULL, and its tables are empty.
 
 use crate::ask;
 use crate::failure::{code, Failure};
 use crate::file::{self, Lake};
 use crate::list::output;
 use crate::records;
-use crate::storage::Storage;
+use crate::storage::{self, Storage};
 use crate::values::columns::type_name;
 use crate::values::times;
 use clap::ArgMatches;
 use gukoremo::number::ABSENT;
 use gukoremo::record::{self, StatisticsRecord};
-use gukoremo::{CatalogId, SnapshotRecord};
+use gukoremo::{CatalogId, FileId, SnapshotRecord};
 use rusqlite::{params, Connection, Transaction};
 use std::collections::BTreeMap;
 use std::fs;
@@ -35,13 +35,32 @@ pub fn run(given: &ArgMatches) -> Result<u8, Failure> {
             .advice("give another path, or move that file away first."));
     }
     let storage = given.get_one::<PathBuf>("storage").map(|list| Storage::read(list)).transpose()?;
-    let scheduled = scheduled_paths(&lake, storage.as_ref())?;
-    write_whole(&lake, out, data_path, &scheduled)?;
-    output(|written| writeln!(written, "{} is a DuckLake 0.3 catalogue in SQLite.", out.display()))?;
+    let stored = Stored::of(&lake, storage.as_ref())?;
+    write_whole(&lake, out, data_path, &stored)?;
+    let unknown = if storage.is_some() { "" } else { ", without the sizes of files, which --storage gives" };
+    output(|written| writeln!(written, "{} is a DuckLake 0.3 catalogue in SQLite{unknown}.", out.display()))?;
     Ok(0)
 }
 
-/// The paths of the scheduled files below the data path. Their records do not have them, so the storage is asked.
+/// What the storage knows and the catalogue does not.
+struct Stored {
+    /// The sizes of the data and delete files, by id; none where no list was given.
+    sizes: Option<BTreeMap<u64, u64>>,
+    /// The paths of the scheduled files below the data path, in their order.
+    scheduled: Vec<String>,
+}
+
+impl Stored {
+    fn of(lake: &Lake, storage: Option<&Storage>) -> Result<Stored, Failure> {
+        let of_files = |storage: &Storage| storage::paths(lake).iter().map(|(id, path)| Ok((*id, storage.size(path)?))).collect();
+        Ok(Stored { sizes: storage.map(of_files).transpose()?, scheduled: scheduled_paths(lake, storage)? })
+    }
+
+    fn size(&self, file: FileId) -> Option<i64> {
+        self.sizes.as_ref()?.get(&file.0).map(|size| *size as i64)
+    }
+}
+
 fn scheduled_paths(lake: &Lake, storage: Option<&Storage>) -> Result<Vec<String>, Failure> {
     let path = |name: String| match storage {
         Some(storage) => storage.find(&name).map(str::to_string),
@@ -53,9 +72,9 @@ fn scheduled_paths(lake: &Lake, storage: Option<&Storage>) -> Result<Vec<String>
 }
 
 /// Written beside and renamed, so that a file of that name is whole.
-fn write_whole(lake: &Lake, out: &Path, data_path: &str, scheduled: &[String]) -> Result<(), Failure> {
+fn write_whole(lake: &Lake, out: &Path, data_path: &str, stored: &Stored) -> Result<(), Failure> {
     let (new, _) = crate::beside::fresh(out, 0o644, |_| ()).map_err(|error| Failure::io(out, "written", error))?;
-    let done = fill(lake, &new, data_path, scheduled)
+    let done = fill(lake, &new, data_path, stored)
         .map_err(|error| Failure::new(code::IO, format!("{} could not be written.", out.display())).why(format!("SQLite says: {error}.")));
     let done = done.and_then(|()| fs::rename(&new, out).map_err(|error| Failure::io(out, "written", error)));
     if done.is_err() {
@@ -64,7 +83,7 @@ fn write_whole(lake: &Lake, out: &Path, data_path: &str, scheduled: &[String]) -
     done
 }
 
-fn fill(lake: &Lake, path: &Path, data_path: &str, scheduled: &[String]) -> rusqlite::Result<()> {
+fn fill(lake: &Lake, path: &Path, data_path: &str, stored: &Stored) -> rusqlite::Result<()> {
     let mut connection = Connection::open(path)?;
     let into = connection.transaction()?;
     into.execute_batch(SCHEMA)?;
@@ -72,9 +91,9 @@ fn fill(lake: &Lake, path: &Path, data_path: &str, scheduled: &[String]) -> rusq
     snapshots(lake, &into)?;
     schemas(lake, &into)?;
     tables(lake, &into)?;
-    files(lake, &into, scheduled)?;
+    files(lake, &into, stored)?;
     statistics(lake, &into)?;
-    table_statistics(lake, &into)?;
+    table_statistics(lake, &into, stored)?;
     into.commit()?;
     connection.close().map_err(|(_, error)| error)
 }
@@ -184,27 +203,27 @@ fn tables(lake: &Lake, into: &Transaction<'_>) -> rusqlite::Result<()> {
 }
 
 /// Files by ascending id, which is their order in the table.
-fn files(lake: &Lake, into: &Transaction<'_>, scheduled: &[String]) -> rusqlite::Result<()> {
+fn files(lake: &Lake, into: &Transaction<'_>, stored: &Stored) -> rusqlite::Result<()> {
     let mut insert = into.prepare(
         "INSERT INTO ducklake_data_file (data_file_id, table_id, begin_snapshot, end_snapshot, file_order, path, path_is_relative, file_format, \
-         record_count, row_id_start) \
-         VALUES (?, ?, ?, ?, ?, ?, true, 'parquet', ?, ?)",
+         record_count, file_size_bytes, row_id_start) \
+         VALUES (?, ?, ?, ?, ?, ?, true, 'parquet', ?, ?, ?)",
     )?;
     for one in records::data_files(lake) {
         let (own, rows, first) = (id(one.id.0), id(one.record_count), id(one.row_id_start.0));
-        insert.execute(params![own, id(one.table.0), id(one.begin.0), end(one.end.0), own, one.uuid.path(), rows, first])?;
+        insert.execute(params![own, id(one.table.0), id(one.begin.0), end(one.end.0), own, one.uuid.path(), rows, stored.size(one.id), first])?;
     }
     let mut insert = into.prepare(
-        "INSERT INTO ducklake_delete_file (delete_file_id, table_id, begin_snapshot, end_snapshot, data_file_id, path, path_is_relative, format, delete_count) \
-         VALUES (?, ?, ?, ?, ?, ?, true, 'parquet', ?)",
+        "INSERT INTO ducklake_delete_file (delete_file_id, table_id, begin_snapshot, end_snapshot, data_file_id, path, path_is_relative, format, delete_count, \
+         file_size_bytes) VALUES (?, ?, ?, ?, ?, ?, true, 'parquet', ?, ?)",
     )?;
     for one in records::delete_files(lake) {
         let (own, data_file, count) = (id(one.id.0), id(one.data_file.0), id(one.delete_count));
-        insert.execute(params![own, id(one.table.0), id(one.begin.0), end(one.end.0), data_file, one.uuid.path(), count])?;
+        insert.execute(params![own, id(one.table.0), id(one.begin.0), end(one.end.0), data_file, one.uuid.path(), count, stored.size(one.id)])?;
     }
     // "The file name is either relative to the data_path value in ducklake_metadata or absolute."
     let mut insert = into.prepare("INSERT INTO ducklake_files_scheduled_for_deletion VALUES (?, ?, true, ?)")?;
-    for (one, path) in records::scheduled(lake).zip(scheduled) {
+    for (one, path) in records::scheduled(lake).zip(&stored.scheduled) {
         insert.execute(params![id(one.file.0), path, timestamp(one.schedule_start)])?;
     }
     Ok(())
@@ -215,11 +234,12 @@ fn bound(flag: u64, word: u64) -> Option<String> {
     (flag == 1).then(|| (word as i64).to_string())
 }
 
+/// No type here has NaN values.
 fn statistics(lake: &Lake, into: &Transaction<'_>) -> rusqlite::Result<()> {
     let of_file: BTreeMap<u64, (u64, u64)> = records::data_files(lake).map(|file| (file.id.0, (file.table.0, file.record_count))).collect();
     let mut insert = into.prepare(
-        "INSERT INTO ducklake_file_column_stats (data_file_id, table_id, column_id, value_count, null_count, min_value, max_value) \
-         VALUES (?, ?, ?, ?, ?, ?, ?)",
+        "INSERT INTO ducklake_file_column_stats (data_file_id, table_id, column_id, value_count, null_count, min_value, max_value, \
+         contains_nan) VALUES (?, ?, ?, ?, ?, ?, ?, false)",
     )?;
     for one in records::statistics(lake) {
         let (table, rows) = of_file.get(&one.data_file.0).copied().unwrap_or((0, 0));
@@ -229,48 +249,74 @@ fn statistics(lake: &Lake, into: &Transaction<'_>) -> rusqlite::Result<()> {
     Ok(())
 }
 
+/// A bound over files.
+#[derive(Clone, Copy)]
+enum Bound {
+    /// No file has a value.
+    Vacant,
+    Known(i64),
+    /// A file with values gives none.
+    Unknown,
+}
+
+impl Bound {
+    /// With a file that has values.
+    fn with(self, own: Option<i64>, choose: impl Fn(i64, i64) -> i64) -> Bound {
+        match (self, own) {
+            (Bound::Vacant, Some(own)) => Bound::Known(own),
+            (Bound::Known(known), Some(own)) => Bound::Known(choose(known, own)),
+            _ => Bound::Unknown,
+        }
+    }
+
+    fn text(self) -> Option<String> {
+        match self {
+            Bound::Known(known) => Some(known.to_string()),
+            Bound::Vacant | Bound::Unknown => None,
+        }
+    }
+}
+
 /// What is known of a column over all its files on record.
 struct Over {
     nulls: bool,
-    min: Option<i64>,
-    max: Option<i64>,
+    min: Bound,
+    max: Bound,
 }
 
 impl Over {
-    /// With one more file: a bound holds for all only where every file that has values gives one.
-    fn with(over: Option<Over>, one: &StatisticsRecord, rows: u64) -> Over {
-        let (min, max) = ((one.has_min == 1).then_some(one.min as i64), (one.has_max == 1).then_some(one.max as i64));
-        let empty = one.null_count == rows;
-        match over {
-            None => Over { nulls: one.null_count > 0, min, max },
-            Some(over) if empty => Over { nulls: true, ..over },
-            Some(over) => Over {
-                nulls: over.nulls || one.null_count > 0,
-                min: over.min.zip(min).map(|(known, new)| known.min(new)),
-                max: over.max.zip(max).map(|(known, new)| known.max(new)),
-            },
+    const NO_FILES: Over = Over { nulls: false, min: Bound::Vacant, max: Bound::Vacant };
+
+    /// With one more file. Where every row is null there is no value to bound.
+    fn add(&mut self, one: &StatisticsRecord, rows: u64) {
+        self.nulls |= one.null_count > 0;
+        if one.null_count < rows {
+            self.min = self.min.with((one.has_min == 1).then_some(one.min as i64), i64::min);
+            self.max = self.max.with((one.has_max == 1).then_some(one.max as i64), i64::max);
         }
     }
 }
 
 /// A table without an insert has no statistics: "If there are none, we need to use INSERT". Deletes leave them: they "are maintained as upper bounds".
-fn table_statistics(lake: &Lake, into: &Transaction<'_>) -> rusqlite::Result<()> {
-    let mut insert = into.prepare("INSERT INTO ducklake_table_stats (table_id, record_count, next_row_id) VALUES (?, ?, ?)")?;
+fn table_statistics(lake: &Lake, into: &Transaction<'_>, stored: &Stored) -> rusqlite::Result<()> {
+    let mut insert = into.prepare("INSERT INTO ducklake_table_stats VALUES (?, ?, ?, ?)")?;
     for (one, _) in records::tables(lake).filter(|(table, _)| table.next_row_id.0 > 0) {
-        insert.execute([id(one.id.0), id(one.next_row_id.0), id(one.next_row_id.0)])?;
+        // "the total file size of all data files in the table", of those on record
+        let sizes = records::data_files(lake).filter(|file| file.table == one.id).map(|file| stored.size(file.id));
+        let size = if stored.sizes.is_some() { Some(sizes.flatten().fold(0, i64::saturating_add)) } else { None };
+        insert.execute(params![id(one.id.0), id(one.next_row_id.0), id(one.next_row_id.0), size])?;
     }
     let of_file: BTreeMap<u64, (u64, u64)> = records::data_files(lake).map(|file| (file.id.0, (file.table.0, file.record_count))).collect();
-    let mut over: BTreeMap<(u64, u64), Option<Over>> = BTreeMap::new();
+    let mut over: BTreeMap<(u64, u64), Over> = BTreeMap::new();
     for one in records::statistics(lake) {
         let (table, rows) = of_file.get(&one.data_file.0).copied().unwrap_or((0, 0));
-        let of_column = over.entry((table, one.column)).or_default();
-        *of_column = Some(Over::with(of_column.take(), &one, rows));
+        over.entry((table, one.column)).or_insert(Over::NO_FILES).add(&one, rows);
     }
-    let mut insert =
-        into.prepare("INSERT INTO ducklake_table_column_stats (table_id, column_id, contains_null, min_value, max_value) VALUES (?, ?, ?, ?, ?)")?;
-    for ((table, column), over) in over.iter().filter_map(|(key, over)| Some((key, over.as_ref()?))) {
-        let text = |bound: Option<i64>| bound.map(|bound| bound.to_string());
-        insert.execute(params![id(*table), id(*column), over.nulls, text(over.min), text(over.max)])?;
+    let mut insert = into.prepare(
+        "INSERT INTO ducklake_table_column_stats (table_id, column_id, contains_null, contains_nan, min_value, max_value) VALUES (?, ?, ?, false, ?, ?)",
+    )?;
+    for ((table, column), over) in over {
+        insert.execute(params![id(table), id(column), over.nulls, over.min.text(), over.max.text()])?;
     }
     Ok(())
 }

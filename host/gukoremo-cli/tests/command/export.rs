@@ -4,6 +4,7 @@ use crate::support::{answer, bytes, diary, gukoremo, text, Chance, Folder};
 use gukoremo::{Catalog, CatalogId, ColumnType, FileId, NewColumn, NewStatistics, OwnedTables, SnapshotId, Uuid};
 use gukoremo_cli::file::Lake;
 use gukoremo_cli::{records, runs};
+use rusqlite::types::Value;
 use rusqlite::{params, Connection, Row};
 
 /// Document 000, 'List Schemas'; its text is lost in the page's break and is the one of 'List Tables' without the schema.
@@ -74,7 +75,7 @@ fn rows<Item>(from: &Connection, query: &str, given: impl rusqlite::Params, item
 #[test]
 fn published_queries_give_the_same_lists() {
     let folder = Folder::new("export");
-    let mut compared = 0;
+    let (mut compared, mut checked) = (0, 0);
     for seed in 0..6 {
         let lake = random(&mut Chance::new(50 + seed));
         let (path, out) = (folder.path(&format!("{seed}.lake")), folder.path(&format!("{seed}.sqlite")));
@@ -88,6 +89,7 @@ fn published_queries_give_the_same_lists() {
         let names = rows(&from, "SELECT count(*) FROM sqlite_master WHERE type = 'table'", [], |row| row.get::<_, i64>(0));
         assert_eq!(names, [22], "\"DuckLake 0.3 uses 22 tables\"");
         assert_eq!(rows(&from, "SELECT value FROM ducklake_metadata WHERE key = 'data_path'", [], |row| row.get::<_, String>(0)), ["s3://shop/"]);
+        checked += columns_as_published(&from);
         for snapshot in records::snapshots(&lake) {
             compared += compare(&lake, &from, snapshot.id);
         }
@@ -103,6 +105,7 @@ fn published_queries_give_the_same_lists() {
     }
     println!("{compared} lists by the published queries are those of the calls");
     assert!(compared > 1_000, "{compared} lists compared");
+    assert!(checked > 1_000, "{checked} values checked");
 }
 
 /// Every list of a snapshot; how many there were.
@@ -193,4 +196,113 @@ fn rows_resolve_to_the_files_that_are_there() {
     found.sort();
     assert_eq!(found, there);
     assert_eq!(answer(&["cleanup", text(&path), "--before", "161", "--csv"]), format!("file,path_in_table\n2,{}\n", name(3)));
+}
+
+/// Document 000, 'Full Schema Creation Script'.
+const STATEMENTS: &str = include_str!("../../../differ/published/schema.sql");
+
+/// Where document 000 lets a value be NULL, and why there is none here.
+const MAY_BE_NULL: [(&str, &str); 18] = [
+    ("scope", "\"or NULL for the Global scope\""),
+    ("scope_id", "\"or NULL for the Global scope\""),
+    ("author", "shown as NULL where none is set"),
+    ("commit_message", "shown as NULL where none is set"),
+    ("commit_extra_info", "shown as NULL where none is set"),
+    ("end_snapshot", "\"If end_snapshot is NULL, ... is currently valid\""),
+    ("parent_column", "\"This is NULL for top-level and non-nested columns\""),
+    ("initial_default", "\"Can be NULL\""),
+    ("default_value", "\"Can be NULL\""),
+    ("footer_size", "\"This is an optimization\", and not known"),
+    ("column_size_bytes", "\"it can safely be set to NULL\""),
+    ("min_value", "\"OR min_value IS NULL\""),
+    ("max_value", "\"OR max_value IS NULL\""),
+    ("extra_stats", "\"specific types such as Geometry types\""),
+    ("partition_id", "no partitions"),
+    ("encryption_key", "\"if encryption is enabled\""),
+    ("partial_file_info", "\"used when snapshots refer to parts of a file\""),
+    ("mapping_id", "no name mapping"),
+];
+
+/// Every column of every table is declared as published, and every value is of its type, and NULL only where it may be; how many values there were.
+fn columns_as_published(from: &Connection) -> usize {
+    let mut checked = 0;
+    let statements: Vec<&str> = STATEMENTS.lines().filter_map(|line| line.strip_prefix("CREATE TABLE ")).collect();
+    assert_eq!(statements.len(), 22);
+    for statement in statements {
+        let (table, columns) = statement.trim_end_matches(");").split_once(" (").expect("columns");
+        let declared = rows(from, &format!("PRAGMA table_info({table})"), [], |row| {
+            let constraint = if row.get("pk")? {
+                " PRIMARY KEY"
+            } else if row.get("notnull")? {
+                " NOT NULL"
+            } else {
+                ""
+            };
+            Ok(format!("{} {}{constraint}", row.get::<_, String>("name")?, row.get::<_, String>("type")?))
+        });
+        assert_eq!(declared.join(", "), columns, "{table}");
+        for column in declared {
+            let mut words = column.split(' ');
+            let (name, kind) = (words.next().expect("a name"), words.next().expect("a type"));
+            for value in rows(from, &format!("SELECT {name} FROM {table}"), [], |row| row.get::<_, Value>(0)) {
+                checked += 1;
+                let is_fine = match (kind, &value) {
+                    (_, Value::Null) => {
+                        MAY_BE_NULL.iter().any(|(known, _)| *known == name) && !column.ends_with("NOT NULL") && !column.ends_with("KEY")
+                    }
+                    ("BIGINT", Value::Integer(_)) | ("VARCHAR", Value::Text(_)) => true,
+                    ("BOOLEAN", Value::Integer(flag)) => *flag == 0 || *flag == 1,
+                    ("UUID", Value::Text(text)) => gukoremo_cli::values::uuids::parse(text).is_ok(),
+                    ("TIMESTAMPTZ", Value::Text(text)) => {
+                        let time = text.strip_suffix("+00").map(|utc| format!("{}Z", utc.replace(' ', "T")));
+                        time.is_some_and(|time| gukoremo_cli::values::times::parse(&time).is_ok())
+                    }
+                    _ => false,
+                };
+                assert!(is_fine, "{table}.{column}: {value:?}");
+            }
+        }
+    }
+    checked
+}
+
+/// Sizes are the storage's, a table's the sum of its data files'. A file of nulls alone, wherever it stands, has no part in a table's bounds.
+#[test]
+fn sizes_and_bounds_of_a_table() {
+    let folder = Folder::new("bounds");
+    let (path, list) = (folder.path("b.lake"), folder.path("b.list"));
+    answer(&["init", text(&path), "--records", "64"]);
+    answer(&["create-table", text(&path), "main.t", "a:int64?", "b:int64?", "c:int64?", "d:int64?"]);
+    let insert = |statistics: &[&str]| answer(&[&["insert", text(&path), "--table", "main.t", "--rows", "2"], statistics].concat());
+    insert(&["a=.. nulls=2", "b=5..6", "c=.. nulls=2", "d=..4"]);
+    insert(&["a=-7..9", "b=.. nulls=2", "c=.. nulls=2", "d=1..3"]);
+    insert(&["a=-8..3", "b=1..5", "c=.. nulls=2", "d=0..9 nulls=1"]);
+    answer(&["delete", text(&path), "--file", "1", "--positions", "0"]);
+    let lake = gukoremo_cli::file::read(&path).expect("a catalogue");
+    std::fs::write(&list, storage(&lake)).expect("written");
+    let export = |out: &str, more: &[&str]| {
+        let out = folder.path(out);
+        let said = answer(&[&["export", text(&path), text(&out)], more].concat());
+        (Connection::open(&out).expect("SQLite"), said)
+    };
+    let (from, said) = export("b.sqlite", &["--storage", text(&list)]);
+    assert!(said.ends_with(" is a DuckLake 0.3 catalogue in SQLite.\n"), "{said}");
+    let text_of = |row: &Row<'_>, at: usize| row.get::<_, Option<String>>(at).map(|text| text.unwrap_or("none".to_string()));
+    let bounds = rows(&from, "SELECT min_value, max_value, contains_null FROM ducklake_table_column_stats ORDER BY column_id", [], |row| {
+        Ok(format!("{}..{} {}", text_of(row, 0)?, text_of(row, 1)?, row.get::<_, bool>(2)?))
+    });
+    assert_eq!(bounds, ["-8..9 true", "1..6 true", "none..none true", "none..9 true"]);
+    let sizes = |table: &str| rows(&from, &format!("SELECT file_size_bytes FROM {table} ORDER BY rowid"), [], |row| row.get::<_, Option<i64>>(0));
+    assert_eq!(sizes("ducklake_data_file"), [Some(1000), Some(1001), Some(1002)]);
+    assert_eq!(sizes("ducklake_delete_file"), [Some(1003)]);
+    assert_eq!(sizes("ducklake_table_stats"), [Some(3003)]);
+    assert!(columns_as_published(&from) > 100);
+
+    // not given, they are not made up
+    let (from, said) = export("c.sqlite", &[]);
+    assert!(said.contains("without the sizes of files, which --storage gives"), "{said}");
+    let known = "SELECT count(file_size_bytes) FROM ";
+    for table in ["ducklake_data_file", "ducklake_delete_file", "ducklake_table_stats"] {
+        assert_eq!(rows(&from, &format!("{known}{table}"), [], |row| row.get::<_, i64>(0)), [0]);
+    }
 }
