@@ -20,10 +20,10 @@ use Rattle.call_lists.specs.Calls.{part, expiredSnapshots, cleanedUp, ma
 use Rattle.call_lists.specs.Playing.{Played, left, next, Tells, callsPlayed}
 use Rattle.call_lists.specs.Demand.{numberTold, placeTold, lengthTold, answerStart, answerAt}
 
--- a record of that kind: time 2, snapshot 3, schema or table 4, file 5, column 6, scalar −1, 8 rows, UUID 9 and 10, the words at 1 (two of them), the name at 0
+-- a record of that kind: time 2, snapshot 3, schema or table 4, file 5, column 6, scalar −2, 8 rows, UUID 9 and 10, the words at 1 (two of them), the name at 0
 -- (one byte), the names at 2 (two bytes)
 abbrev recordOf : ℕ → List ℕ
-recordOf kind = kind ∷ 2 ∷ 3 ∷ 4 ∷ 5 ∷ 6 ∷ 18446744073709551615 ∷ 8 ∷ 9 ∷ 10 ∷ 1 ∷ 2 ∷ 0 ∷ 1 ∷ 2 ∷ 2 ∷ []
+recordOf kind = kind ∷ 2 ∷ 3 ∷ 4 ∷ 5 ∷ 6 ∷ 18446744073709551614 ∷ 8 ∷ 9 ∷ 10 ∷ 1 ∷ 2 ∷ 0 ∷ 1 ∷ 2 ∷ 2 ∷ []
 
 -- what it asks for, its arguments in these runs
 abbrev given : ℕ → Asked
@@ -79,7 +79,7 @@ finds-table : given foundTableByName ≡ queried (Query.tableNamed 4 (20 ∷ [])
 unfolding questionOf requestOf askedOf
 finds-table = refl
 
-lists-files : (given listedFiles ≡ queried (Query.files 4)) × (given listedFilteredFiles ≡ queried (Query.filteredFiles 4 6 (negsuc 0)))
+lists-files : (given listedFiles ≡ queried (Query.files 4)) × (given listedFilteredFiles ≡ queried (Query.filteredFiles 4 6 (negsuc 1)))
 unfolding questionOf requestOf askedOf
 lists-files = (refl, refl)
 
