@@ -29,6 +29,7 @@ mod stack;
 mod step;
 mod tally;
 mod timed;
+mod unchained;
 mod unmarked;
 
 use std::process::ExitCode;
@@ -40,6 +41,7 @@ const USAGE: &str = "usage:
   differ write CASES FOLDER      the lists of conformance/, from the folder of the proved cases and from seeds
   differ play PATH               a list, or a folder of them, against both
   differ sessions PATH COUNT     the same lists and so many random ones, in lists that one call plays, bent in every way
+  differ unchained               lists that one call plays on tables that are sound and not chained, made unsound, or of any words
   differ published COUNT         the published queries on SQLite, for so many random catalogues
   differ bench [CALL ..]         the table of docs/BENCHMARKS.md: times of the calls, as ratios
   differ costs                   the table of docs/CHECK-TIMES.md: what each call costs beyond the check, in plain passes
@@ -58,6 +60,7 @@ fn main() -> ExitCode {
         ["write", cases, folder] => conformance::write(cases, folder),
         ["play", path] => conformance::check(path),
         ["sessions", path, count] => sessions::run(path, count),
+        ["unchained"] => unchained::run(),
         ["published", count] => published::run(count),
         ["bench", ref calls @ ..] => bench::run(calls),
         ["costs"] => costs::run(),
