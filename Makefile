@@ -35,8 +35,8 @@ fuzz: library ## play N=100000 random calls and damaged tables: about a minute a
 	@sh host/packages && cargo build --release --offline --quiet --target-dir target/host --manifest-path host/differ/Cargo.toml
 	@target/host/release/differ fuzz $(or $(N),100000) $(SEED)
 
-# The table of docs/BENCHMARKS.md, measured here.
-bench: library ## measure the calls, as ratios (docs/BENCHMARKS.md): about a minute after make library
+# The tables of docs/BENCHMARKS.md, measured here.
+bench: library ## measure the calls and lists of them, as ratios (docs/BENCHMARKS.md): a few minutes after make library
 	@sh host/packages && cargo build --release --offline --quiet --target-dir target/host --manifest-path host/differ/Cargo.toml
 	@target/host/release/differ bench
 

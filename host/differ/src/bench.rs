@@ -1,6 +1,7 @@
 //! Each call on tables near the limits and on a sixteenth of them: the compiled call, the second implementation, the published query on SQLite, one plain pass.
 
 use crate::limits;
+use crate::list_bench;
 use crate::play::{self, Pair};
 use crate::published;
 use crate::shapes::Shape;
@@ -20,6 +21,9 @@ const SIXTEENTH: usize = RECORD_LIMIT / 16;
 /// The readings that are also asked where all files are in one table.
 const OF_FILES: [&str; 3] = ["list_files", "list_filtered_files", "list_rows"];
 
+/// The name by which lists alone are asked for.
+const LISTS: &str = "lists";
+
 /// Rounds: in each the compiled call and the second implementation. The least of each is taken, and that of many passes over the same tables.
 const ROUNDS: usize = 9;
 const PASSES: usize = 400;
@@ -30,8 +34,11 @@ const LEAST: Duration = Duration::from_micros(1);
 /// How often a query is asked.
 const ASKED: usize = 100;
 
-/// A table of ratios for the calls that are named, or for all.
+/// A table of ratios for the calls that are named, or for all and for lists.
 pub fn run(names: &[&str]) -> Result<String, String> {
+    if names == [LISTS] {
+        return list_bench::run();
+    }
     let mut text = format!(
         "Measured in one run: {ROUNDS} rounds of call and second implementation, {PASSES} passes, the least of each; the mean of {ASKED} queries.\n\n\
          | call | tables | records | compiled | plain passes | second | SQLite |\n|---|---|---|---|---|---|---|\n"
@@ -53,6 +60,9 @@ pub fn run(names: &[&str]) -> Result<String, String> {
                 let _ = writeln!(text, "| `{name}` | {} | {records} | {} |", shape.says(), ratios(&full, &mut timed, &what, pass, sqlite));
             }
         }
+    }
+    if names.is_empty() {
+        let _ = write!(text, "\n{}", list_bench::run()?);
     }
     Ok(text.trim_end().to_string())
 }

@@ -14,6 +14,7 @@ mod costs;
 mod from_cases;
 mod fuzz;
 mod limits;
+mod list_bench;
 mod moves;
 mod one_call;
 mod play;
@@ -43,7 +44,7 @@ const USAGE: &str = "usage:
   differ sessions PATH COUNT     the same lists and so many random ones, in lists that one call plays, bent in every way
   differ unchained               lists that one call plays on tables that are sound and not chained, made unsound, or of any words
   differ published COUNT         the published queries on SQLite, for so many random catalogues
-  differ bench [CALL ..]         the table of docs/BENCHMARKS.md: times of the calls, as ratios
+  differ bench [CALL ..]         the tables of docs/BENCHMARKS.md: times of the calls, as ratios; of lists alone: differ bench lists
   differ costs                   the table of docs/CHECK-TIMES.md: what each call costs beyond the check, in plain passes
   differ check-limits            what the check says of tables at the limits and one past them, from both implementations
   differ check-times             the table of docs/CHECK-TIMES.md: what a check costs on each content, in plain passes

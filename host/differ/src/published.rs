@@ -6,10 +6,13 @@ use crate::catalogue::Catalogue;
 use crate::moves;
 use crate::play::Pair;
 use crate::player;
-use crate::sqlite;
+use crate::sqlite::{self, Values};
+use crate::step::Step;
+use rusqlite::types::Value;
 use second::dice::Dice;
 use second::paths::path;
-use second::{load, Catalog, Reading, ABSENT};
+use second::records::Table;
+use second::{load, Call, Catalog, Reading, ABSENT};
 use std::collections::BTreeMap;
 
 /// "Get Current Snapshot".
@@ -21,6 +24,10 @@ const SCHEMAS: &str =
 
 /// "List Tables".
 const TABLES: &str = "SELECT table_id, table_name FROM ducklake_table WHERE schema_id = <SCHEMA_ID> AND \
+    <SNAPSHOT_ID> >= begin_snapshot AND (<SNAPSHOT_ID> < end_snapshot OR end_snapshot IS NULL);";
+
+/// The same of one name: document 01's reading of a table by its name.
+const NAMED: &str = "SELECT table_id, table_name FROM ducklake_table WHERE table_name = <TABLE_NAME> AND schema_id = <SCHEMA_ID> AND \
     <SNAPSHOT_ID> >= begin_snapshot AND (<SNAPSHOT_ID> < end_snapshot OR end_snapshot IS NULL);";
 
 /// "Show the Structure of a Table".
@@ -61,34 +68,85 @@ impl Decided {
     }
 }
 
+/// A query with its places, and what stands in each.
+type Asked = (&'static str, Vec<(&'static str, Value)>);
+
 /// The query that a reading condenses; none for rows and for the lookup, of which document 000 has none.
-pub fn query(reading: &Reading) -> Option<String> {
-    let (query, values) = match reading {
-        Reading::Schemas { .. } => (SCHEMAS, vec![]),
-        Reading::Tables { schema, .. } => (TABLES, vec![("<SCHEMA_ID>", schema.to_string())]),
-        Reading::Columns { table, .. } => (COLUMNS, vec![("<TABLE_ID>", table.to_string())]),
-        Reading::TableByName { schema, name, .. } => {
-            let named = format!("table_name = '{}' AND schema_id = {schema}", String::from_utf8_lossy(name));
-            (TABLES, vec![("schema_id = <SCHEMA_ID>", named)])
+fn asked(reading: &Reading) -> Option<Asked> {
+    let number = |word: &u64| Value::Integer(i64::try_from(*word).unwrap_or(i64::MAX));
+    let at = |snapshot| ("<SNAPSHOT_ID>", number(snapshot));
+    let of = |table| ("<TABLE_ID>", number(table));
+    let within = |schema| ("<SCHEMA_ID>", number(schema));
+    Some(match reading {
+        Reading::Schemas { snapshot } => (SCHEMAS, vec![at(snapshot)]),
+        Reading::Tables { snapshot, schema } => (TABLES, vec![at(snapshot), within(schema)]),
+        Reading::Columns { snapshot, table } => (COLUMNS, vec![at(snapshot), of(table)]),
+        Reading::TableByName { snapshot, schema, name } => {
+            let name = Value::Text(String::from_utf8_lossy(name).into_owned());
+            (NAMED, vec![at(snapshot), within(schema), ("<TABLE_NAME>", name)])
         }
-        Reading::Files { table, .. } => (FILES, vec![("<TABLE_ID>", table.to_string())]),
+        Reading::Files { snapshot, table } => (FILES, vec![at(snapshot), of(table)]),
         Reading::FilteredFiles { table, column, scalar, .. } => {
-            (PRUNED, vec![("<TABLE_ID>", table.to_string()), ("<COLUMN_ID>", column.to_string()), ("<SCALAR>", scalar_text(*scalar))])
+            (PRUNED, vec![of(table), ("<COLUMN_ID>", number(column)), ("<SCALAR>", Value::Integer(*scalar))])
         }
         Reading::ByTime { t: ABSENT } => (CURRENT, vec![]),
-        Reading::ByTime { t } => (BY_TIME, vec![("<TIME>", t.to_string())]),
+        Reading::ByTime { t } => (BY_TIME, vec![("<TIME>", number(t))]),
         Reading::Rows { .. } | Reading::FindFile { .. } => return None,
-    };
-    let at = match reading {
-        Reading::Schemas { snapshot }
-        | Reading::Tables { snapshot, .. }
-        | Reading::Columns { snapshot, .. }
-        | Reading::TableByName { snapshot, .. }
-        | Reading::Files { snapshot, .. }
-        | Reading::FilteredFiles { snapshot, .. } => snapshot.to_string(),
-        _ => String::new(),
-    };
-    Some(values.iter().fold(query.replace("<SNAPSHOT_ID>", &at), |query, (place, value)| query.replace(place, value)))
+    })
+}
+
+/// The query as text.
+pub fn query(reading: &Reading) -> Option<String> {
+    let (query, values) = asked(reading)?;
+    Some(values.iter().fold(query.to_string(), |query, (place, value)| query.replace(place, &value_text(value))))
+}
+
+/// The query to be prepared, the same for all readings of a kind, and the values by place.
+pub fn prepared(reading: &Reading) -> Option<(String, Values)> {
+    let (query, values) = asked(reading)?;
+    let query = values.iter().enumerate().fold(query.to_string(), |query, (i, (place, _))| query.replace(place, &format!("?{}", i + 1)));
+    Some((query, values.into_iter().map(|(_, value)| value).collect()))
+}
+
+/// What an insert writes, by "Snapshot Creation" and "INSERT": the columns that the export fills, and bounds compared as numbers.
+const INSERT: [&str; 6] = [
+    "INSERT INTO ducklake_snapshot VALUES (?, ?, ?, ?, ?)",
+    "INSERT INTO ducklake_snapshot_changes (snapshot_id, changes_made) VALUES (?, ?)",
+    "INSERT INTO ducklake_data_file (data_file_id, table_id, begin_snapshot, end_snapshot, file_order, path, path_is_relative, file_format, record_count, \
+     row_id_start) VALUES (?1, ?2, ?3, NULL, ?1, ?4, true, 'parquet', ?5, ?6)",
+    "UPDATE ducklake_table_stats SET record_count = record_count + ?2, next_row_id = next_row_id + ?2 WHERE table_id = ?1",
+    "UPDATE ducklake_table_column_stats SET contains_null = contains_null OR ?3 > 0, contains_nan = contains_nan, \
+     min_value = min(CAST(min_value AS BIGINT), ?4), max_value = max(CAST(max_value AS BIGINT), ?5) WHERE table_id = ?1 AND column_id = ?2",
+    "INSERT INTO ducklake_file_column_stats (data_file_id, table_id, column_id, value_count, null_count, min_value, max_value, contains_nan) \
+     VALUES (?, ?, ?, ?, ?, ?, ?, false)",
+];
+
+/// The statements of inserts with statistics of one column, and for each insert the values of each. What the client has to know, ids and first rows, it has
+/// counted before.
+pub fn insert_statements(catalog: &Catalog, steps: &[Step]) -> (Vec<&'static str>, Vec<Vec<Values>>) {
+    let (mut snapshot, latest) = catalog.latest();
+    let mut file = latest.next_file_id;
+    let mut rows: BTreeMap<u64, u64> = catalog.tables.iter().map(|(id, table)| (*id, table.next_row_id)).collect();
+    let mut calls = Vec::new();
+    for step in steps {
+        let Step::Call(Call::Insert { time, table, record_count, uuid, statistics }) = step else { continue };
+        let [column, nulls, _, _, min, max] = statistics[..] else { continue };
+        let first = rows.entry(*table).or_default();
+        snapshot += 1;
+        let numbers = |words: &[u64]| words.iter().map(|word| Value::Integer(*word as i64)).collect::<Values>();
+        let text = |text: String| vec![Value::Text(text)];
+        calls.push(vec![
+            numbers(&[snapshot, *time, latest.schema_version, latest.next_catalog_id, file + 1]),
+            [numbers(&[snapshot]), text(format!("inserted_into_table:{table}"))].concat(),
+            [numbers(&[file, *table, snapshot]), text(path(*uuid)), numbers(&[*record_count, *first])].concat(),
+            numbers(&[*table, *record_count]),
+            numbers(&[*table, column, nulls, min, max]),
+            [numbers(&[file, *table, column, *record_count, nulls]), text(min.to_string()), text(max.to_string())].concat(),
+        ]);
+        *first += record_count;
+        file += 1;
+    }
+    (INSERT.to_vec(), calls)
 }
 
 /// A reading with its query.
@@ -169,7 +227,7 @@ fn at_snapshot(catalog: &Catalog, dice: &mut Dice, snapshot: u64, readings: &mut
     readings.extend(catalog.schemas.keys().copied().chain([77]).map(|schema| Reading::Tables { snapshot, schema }));
     for (id, record) in &catalog.tables {
         let table = *id;
-        let name = record.name.place().into_iter().take_while(|byte| *byte != 0).collect();
+        let name = name(record);
         readings.extend([Reading::Columns { snapshot, table }, Reading::Files { snapshot, table }]);
         readings.push(Reading::TableByName { snapshot, schema: record.schema, name });
         for (column, _) in catalog.columns_of(table) {
@@ -180,11 +238,18 @@ fn at_snapshot(catalog: &Catalog, dice: &mut Dice, snapshot: u64, readings: &mut
 }
 
 /// SQLite reads the lowest number as a real one unless it is computed.
-fn scalar_text(scalar: i64) -> String {
-    match scalar {
-        i64::MIN => format!("({} - 1)", i64::MIN + 1),
-        _ => format!("({scalar})"),
+fn value_text(value: &Value) -> String {
+    match value {
+        Value::Integer(i64::MIN) => format!("({} - 1)", i64::MIN + 1),
+        Value::Integer(number) => format!("({number})"),
+        Value::Text(text) => format!("'{text}'"),
+        _ => "NULL".to_string(),
     }
+}
+
+/// A table's name without the zeros behind it.
+pub fn name(table: &Table) -> Vec<u8> {
+    table.name.place().into_iter().take_while(|byte| *byte != 0).collect()
 }
 
 impl Compared {
