@@ -6,11 +6,14 @@ use crate::failure::Failure;
 use crate::file::Lake;
 use crate::records;
 use crate::refused::ranges;
+use crate::source::{in_one_list, Source, LIST_WORDS};
 use crate::storage;
 use crate::values::columns::type_name;
 use gukoremo::number::ABSENT;
 use gukoremo::record::{ColumnRecord, SchemaRecord, StatisticsRecord, TableRecord};
+use gukoremo::session::CallRecord;
 use gukoremo::{DataFileRecord, DeleteFileRecord, SnapshotId, SnapshotRecord, Uuid};
+use std::rc::Rc;
 
 /// One thing, with what is said of it.
 pub struct Node {
@@ -60,21 +63,30 @@ pub fn snapshots(lake: &Lake) -> Result<Vec<Node>, Failure> {
 }
 
 /// What a snapshot shows.
-pub fn shown(lake: &Lake, at: SnapshotId) -> Result<Vec<Node>, Failure> {
-    Reader::new(lake, Some(at)).schemas()
+pub fn shown(lake: &mut Lake, at: SnapshotId) -> Result<Vec<Node>, Failure> {
+    in_one_list(lake, |from| Reader::new(from, Some(at)).schemas())
 }
 
-/// The tables that a snapshot shows, each with its rows alone.
-pub fn rows(lake: &Lake, at: SnapshotId) -> Result<Vec<Node>, Failure> {
-    let reader = Reader::new(lake, Some(at));
-    let mut all = Vec::new();
-    for (schema, schema_name) in records::schemas(lake).filter(|(schema, _)| records::live(schema.begin, schema.end, at)) {
-        for (table, name) in reader.listed_tables(&schema)? {
-            let node = reader.node("table", format!("{schema_name}.{name}"), name.clone(), table.id.0);
-            all.push(Node { numbers: reader.rows(table)?, ..node });
-        }
-    }
-    Ok(all)
+/// Of each snapshot the tables that it shows, each with its rows alone.
+pub fn rows(lake: &mut Lake, snapshots: &[SnapshotId]) -> Vec<Result<Vec<Node>, Failure>> {
+    in_one_list(lake, |from| {
+        let reader = Reader::new(from, None);
+        snapshots.iter().map(|at| Reader { at: Some(*at), ..reader.clone() }.table_rows(*at)).collect()
+    })
+}
+
+/// How many of the first of these snapshots have their rows listed together, by the words that their lists and answers have: one at least.
+pub fn together(lake: &Lake, snapshots: &[SnapshotId]) -> usize {
+    let tables = (lake.counts().schemas.min(lake.view().schemas.len()) + lake.counts().tables.min(lake.view().tables.len())) as u64;
+    let words = |at: &SnapshotId| {
+        let live = records::data_files(lake).filter(|file| records::live(file.begin, file.end, *at));
+        live.fold(tables * CallRecord::SIZE as u64, |sum, file| sum.saturating_add(file.record_count))
+    };
+    let sums = snapshots.iter().map(words).scan(0, |sum: &mut u64, words| {
+        *sum = sum.saturating_add(words);
+        Some(*sum)
+    });
+    sums.take_while(|sum| *sum <= LIST_WORDS).count().max(1)
 }
 
 /// Everything on record, of tables that a call has accepted.
@@ -98,17 +110,20 @@ fn optional(is_there: bool, word: impl ToString) -> String {
     }
 }
 
+#[derive(Clone)]
 struct Reader<'a> {
+    from: &'a dyn Source,
     lake: &'a Lake,
     /// None is everything on record.
     at: Option<SnapshotId>,
-    tables: Vec<(TableRecord, String)>,
-    columns: Vec<(ColumnRecord, String)>,
+    tables: Rc<[(TableRecord, String)]>,
+    columns: Rc<[(ColumnRecord, String)]>,
 }
 
 impl Reader<'_> {
-    fn new(lake: &Lake, at: Option<SnapshotId>) -> Reader<'_> {
-        Reader { lake, at, tables: records::tables(lake).collect(), columns: records::columns(lake).collect() }
+    fn new(from: &dyn Source, at: Option<SnapshotId>) -> Reader<'_> {
+        let lake = from.lake();
+        Reader { from, lake, at, tables: records::tables(lake).collect(), columns: records::columns(lake).collect() }
     }
 
     fn node(&self, kind: &'static str, place: String, name: String, id: u64) -> Node {
@@ -132,7 +147,7 @@ impl Reader<'_> {
     }
 
     fn schemas(&self) -> Result<Vec<Node>, Failure> {
-        let listed = self.at.map(|at| ask::schemas(self.lake, at)).transpose()?;
+        let listed = self.at.map(|at| ask::schemas(self.from, at)).transpose()?;
         let mut nodes = Vec::new();
         for (one, name) in records::schemas(self.lake).filter(|(one, _)| listed.as_ref().is_none_or(|ids| ids.contains(&one.id))) {
             let fields = self.fields(("name", &name), one.id.0, &[], (one.begin, one.end));
@@ -143,14 +158,25 @@ impl Reader<'_> {
     }
 
     fn listed_tables(&self, schema: &SchemaRecord) -> Result<Vec<&(TableRecord, String)>, Failure> {
-        let listed = self.at.map(|at| ask::tables(self.lake, at, schema.id)).transpose()?;
+        let listed = self.at.map(|at| ask::tables(self.from, at, schema.id)).transpose()?;
         let of_schema = self.tables.iter().filter(|(one, _)| one.schema == schema.id);
         Ok(of_schema.filter(|(one, _)| listed.as_ref().is_none_or(|ids| ids.contains(&one.id))).collect())
     }
 
     fn rows(&self, table: &TableRecord) -> Result<Option<(&'static str, Vec<u64>)>, Failure> {
-        let listed = self.at.map(|at| ask::rows(self.lake, at, table.id)).transpose()?;
+        let listed = self.at.map(|at| ask::rows(self.from, at, table.id)).transpose()?;
         Ok(listed.map(|rows| ("rows", rows.into_iter().map(|row| row.0).collect())))
+    }
+
+    fn table_rows(&self, at: SnapshotId) -> Result<Vec<Node>, Failure> {
+        let mut all = Vec::new();
+        for (schema, schema_name) in records::schemas(self.lake).filter(|(schema, _)| records::live(schema.begin, schema.end, at)) {
+            for (table, name) in self.listed_tables(&schema)? {
+                let node = self.node("table", format!("{schema_name}.{name}"), name.clone(), table.id.0);
+                all.push(Node { numbers: self.rows(table)?, ..node });
+            }
+        }
+        Ok(all)
     }
 
     fn tables(&self, schema: &SchemaRecord, schema_name: &str) -> Result<Vec<Node>, Failure> {
@@ -169,7 +195,7 @@ impl Reader<'_> {
     }
 
     fn columns(&self, table: &TableRecord, table_place: &str) -> Result<Vec<Node>, Failure> {
-        let listed = self.at.map(|at| ask::columns(self.lake, at, table.id)).transpose()?;
+        let listed = self.at.map(|at| ask::columns(self.from, at, table.id)).transpose()?;
         let of_table = self.columns.iter().filter(|(one, _)| one.table == table.id);
         let node = |(one, name): &(ColumnRecord, String)| {
             let own = [
@@ -184,7 +210,7 @@ impl Reader<'_> {
     }
 
     fn data_files(&self, table: &TableRecord, folder: &str) -> Result<Vec<Node>, Failure> {
-        let listed = self.at.map(|at| ask::files(self.lake, at, table.id, None)).transpose()?;
+        let listed = self.at.map(|at| ask::files(self.from, at, table.id, None)).transpose()?;
         let is_listed = |one: &DataFileRecord| listed.as_ref().is_none_or(|pairs| pairs.iter().any(|pair| pair.data_file == one.id));
         let deletes_of = |one: &DataFileRecord, deletes: &DeleteFileRecord| {
             deletes.data_file == one.id && listed.as_ref().is_none_or(|pairs| pairs.iter().any(|pair| pair.delete_file == Some(deletes.id)))

@@ -13,7 +13,7 @@ use std::path::PathBuf;
 
 pub fn run(given: &ArgMatches) -> Result<u8, Failure> {
     let path = |name: &str| given.get_one::<PathBuf>(name).expect("required");
-    let (a, b) = (file::read(path("file"))?, file::read(path("other"))?);
+    let (mut a, mut b) = (file::read(path("file"))?, file::read(path("other"))?);
     let (of_a, of_b) = (contents::snapshots(&a)?, contents::snapshots(&b)?);
     let both: Vec<SnapshotId> =
         pairs(&of_a, &of_b).into_iter().filter_map(|(one, other)| one.zip(other).map(|(one, _)| SnapshotId(one.id))).collect();
@@ -22,7 +22,7 @@ pub fn run(given: &ArgMatches) -> Result<u8, Failure> {
         let at = SnapshotId(*at);
         let only = |all: Vec<Node>| all.into_iter().filter(|one| one.id == at.0).collect::<Vec<Node>>();
         // refused where one of the two does not retain it
-        let (shown_a, shown_b) = (contents::shown(&a, at)?, contents::shown(&b, at)?);
+        let (shown_a, shown_b) = (contents::shown(&mut a, at)?, contents::shown(&mut b, at)?);
         found.compare(&only(of_a), &only(of_b));
         found.compare(&shown_a, &shown_b);
         format!("show the same at snapshot {}", at.0)
@@ -30,15 +30,20 @@ pub fn run(given: &ArgMatches) -> Result<u8, Failure> {
         found.compare(&of_a, &of_b);
         found.compare(&contents::on_record(&a)?, &contents::on_record(&b)?);
         // rows are read from the records: where these are the same, so are the rows
-        for at in if found.list.rows.is_empty() { vec![] } else { both } {
-            found.rows(&contents::rows(&a, at)?, &contents::rows(&b, at)?);
+        let mut rest = if found.list.rows.is_empty() { &[] } else { &both[..] };
+        while !rest.is_empty() {
+            let (now, later) = rest.split_at(contents::together(&a, rest).min(contents::together(&b, rest)));
+            for (of_a, of_b) in contents::rows(&mut a, now).into_iter().zip(contents::rows(&mut b, now)) {
+                found.rows(&of_a?, &of_b?);
+            }
+            rest = later;
         }
         "have the same on record".to_string()
     } else {
         found.compare(&of_a, &of_b);
         let at = both.last().copied();
         if let Some(at) = at {
-            found.compare(&contents::shown(&a, at)?, &contents::shown(&b, at)?);
+            found.compare(&contents::shown(&mut a, at)?, &contents::shown(&mut b, at)?);
         }
         format!("have the same snapshots and show the same at snapshot {}; --all compares all that is on record", at.map_or(0, |at| at.0))
     };

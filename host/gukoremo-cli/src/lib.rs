@@ -1,6 +1,6 @@
 //! The command `gukoremo`: a DuckLake 0.3 snapshot catalogue in a file, over the proved calls of `host/gukoremo`.
 //!
-//! What a catalogue does stands in the calls. Here are the words of the command (`arguments`, `values`), the file (`format`, `file`, `lock`, `beside`, `rights`), answers (`list`)
+//! What a catalogue does stands in the calls. Here are the words of the command (`arguments`, `values`), the file (`format`, `file`, `lock`, `beside`, `rights`), readings (`source`, `ask`), answers (`list`)
 //! and refusals in full (`refused`); a file for each sort of command. A library, so that tests reach all of it; `main.rs` is the command.
 #![forbid(unsafe_code)]
 
@@ -24,6 +24,7 @@ pub mod records;
 pub mod refused;
 pub mod rights;
 pub mod runs;
+pub mod source;
 pub mod storage;
 pub mod values;
 

@@ -5,6 +5,7 @@ use crate::failure::Failure;
 use crate::file::{self, Lake};
 use crate::list::{output, Cell, Form, List, Said};
 use crate::records;
+use crate::source::{in_one_list, Source};
 use crate::storage;
 use crate::values::columns::type_name;
 use crate::values::names::{Reference, TableReference};
@@ -23,15 +24,15 @@ pub fn form(given: &ArgMatches) -> Form {
 }
 
 pub fn run(name: &str, given: &ArgMatches) -> Result<u8, Failure> {
-    let lake = file::read(given.get_one::<PathBuf>("file").expect("required"))?;
+    let mut lake = file::read(given.get_one::<PathBuf>("file").expect("required"))?;
     let form = form(given);
     match name {
         "snapshots" => snapshots(&lake)?.print(form),
-        "schemas" => schemas(&lake, at(&lake, given)?)?.print(form),
-        "tables" => tables(&lake, given)?.print(form),
-        "columns" => columns(&lake, given)?.print(form),
-        "files" => files(&lake, given, form)?.print(form),
-        "rows" => rows(&lake, given, form),
+        "schemas" => schemas(&mut lake, given)?.print(form),
+        "tables" => tables(&mut lake, given)?.print(form),
+        "columns" => columns(&mut lake, given)?.print(form),
+        "files" => files(&mut lake, given, form)?.print(form),
+        "rows" => rows(&mut lake, given, form),
         "at" => snapshot_at(&lake, given)?.print(form),
         "lookup" => lookup(&lake, FileId(*given.get_one("id").expect("required")))?.print(form),
         _ => scheduled(&lake)?.print(form),
@@ -39,8 +40,8 @@ pub fn run(name: &str, given: &ArgMatches) -> Result<u8, Failure> {
     Ok(0)
 }
 
-fn at(lake: &Lake, given: &ArgMatches) -> Result<SnapshotId, Failure> {
-    ask::snapshot(lake, given.get_one("at").copied(), given.get_one("time").copied())
+fn at(from: &dyn Source, given: &ArgMatches) -> Result<SnapshotId, Failure> {
+    ask::snapshot(from, given.get_one("at").copied(), given.get_one("time").copied())
 }
 
 fn number(number: u64) -> Cell {
@@ -77,8 +78,8 @@ fn scheduled(lake: &Lake) -> Result<List, Failure> {
     Ok(list)
 }
 
-fn schemas(lake: &Lake, at: SnapshotId) -> Result<List, Failure> {
-    let listed = ask::schemas(lake, at)?;
+fn schemas(lake: &mut Lake, given: &ArgMatches) -> Result<List, Failure> {
+    let listed = in_one_list(lake, |from| ask::schemas(from, at(from, given)?))?;
     let known: HashMap<u64, (u64, u64, String)> =
         records::schemas(lake).map(|(schema, name)| (schema.id.0, (schema.begin.0, schema.end.0, name))).collect();
     let mut list = List::new(&["schema", "name", "begin", "end"]);
@@ -88,11 +89,12 @@ fn schemas(lake: &Lake, at: SnapshotId) -> Result<List, Failure> {
     Ok(list)
 }
 
-fn tables(lake: &Lake, given: &ArgMatches) -> Result<List, Failure> {
-    let at = at(lake, given)?;
+fn tables(lake: &mut Lake, given: &ArgMatches) -> Result<List, Failure> {
     let main = Reference::Name("main".to_string());
-    let schema = ask::schema_id(lake, at, given.get_one("schema").unwrap_or(&main))?;
-    let listed = ask::tables(lake, at, schema)?;
+    let listed = in_one_list(lake, |from| {
+        let at = at(from, given)?;
+        ask::tables(from, at, ask::schema_id(from, at, given.get_one("schema").unwrap_or(&main))?)
+    })?;
     let known: HashMap<u64, _> = records::tables(lake).map(|(table, name)| (table.id.0, (table, name))).collect();
     let mut list = List::new(&["table", "name", "begin", "end", "next_row"]);
     for (table, name) in listed.iter().filter_map(|id| known.get(&id.0)) {
@@ -102,15 +104,17 @@ fn tables(lake: &Lake, given: &ArgMatches) -> Result<List, Failure> {
 }
 
 /// The snapshot and the table of a reading.
-fn table(lake: &Lake, given: &ArgMatches) -> Result<(SnapshotId, CatalogId), Failure> {
-    let at = at(lake, given)?;
+fn table(from: &dyn Source, given: &ArgMatches) -> Result<(SnapshotId, CatalogId), Failure> {
+    let at = at(from, given)?;
     let reference: &TableReference = given.get_one("table").expect("required");
-    Ok((at, ask::table_id(lake, at, reference)?))
+    Ok((at, ask::table_id(from, at, reference)?))
 }
 
-fn columns(lake: &Lake, given: &ArgMatches) -> Result<List, Failure> {
-    let (at, table) = table(lake, given)?;
-    let listed = ask::columns(lake, at, table)?;
+fn columns(lake: &mut Lake, given: &ArgMatches) -> Result<List, Failure> {
+    let (table, listed) = in_one_list(lake, |from| {
+        let (at, table) = table(from, given)?;
+        Ok((table, ask::columns(from, at, table)?))
+    })?;
     let of_table = records::columns(lake).filter(|(column, _)| column.table == table);
     let known: HashMap<u64, _> = of_table.map(|(column, name)| (column.id, (column, name))).collect();
     let mut list = List::new(&["column", "name", "type", "nulls_allowed"]);
@@ -120,13 +124,16 @@ fn columns(lake: &Lake, given: &ArgMatches) -> Result<List, Failure> {
     Ok(list)
 }
 
-fn files(lake: &Lake, given: &ArgMatches, form: Form) -> Result<List, Failure> {
-    let (at, table) = table(lake, given)?;
-    let filter = match given.get_one::<(Reference, i64)>("where") {
-        None => None,
-        Some((column, scalar)) => Some((ask::column_id(lake, at, table, column)?, *scalar)),
-    };
-    Ok(file_list(lake, &ask::files(lake, at, table, filter)?, form))
+fn files(lake: &mut Lake, given: &ArgMatches, form: Form) -> Result<List, Failure> {
+    let listed = in_one_list(lake, |from| {
+        let (at, table) = table(from, given)?;
+        let filter = match given.get_one::<(Reference, i64)>("where") {
+            None => None,
+            Some((column, scalar)) => Some((ask::column_id(from, at, table, column)?, *scalar)),
+        };
+        ask::files(from, at, table, filter)
+    })?;
+    Ok(file_list(lake, &listed, form))
 }
 
 /// In CSV the paths alone, as document 01 prints them.
@@ -158,9 +165,11 @@ fn file_list(lake: &Lake, listed: &[Listed], form: Form) -> List {
 }
 
 /// There can be millions, so they are written as they come.
-fn rows(lake: &Lake, given: &ArgMatches, form: Form) -> Result<(), Failure> {
-    let (at, table) = table(lake, given)?;
-    let rows = ask::rows(lake, at, table)?;
+fn rows(lake: &mut Lake, given: &ArgMatches, form: Form) -> Result<(), Failure> {
+    let rows = in_one_list(lake, |from| {
+        let (at, table) = table(from, given)?;
+        ask::rows(from, at, table)
+    })?;
     output(|out| {
         match form {
             Form::Json => {

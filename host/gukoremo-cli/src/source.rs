@@ -1,0 +1,212 @@
+//! Where answers come from: a compiled call for each reading, or one list of all that will be asked, for which the tables are judged once.
+
+use crate::ask::timed;
+use crate::file::Lake;
+use crate::records;
+use gukoremo::number::COLUMN_LIMIT;
+use gukoremo::outcome::{NOT_LIVE, NO_SNAPSHOT_BY_THEN, SHORT_ANSWER_AREA};
+use gukoremo::record::{ColumnRecord, SchemaRecord, TableRecord};
+use gukoremo::{raw, CallList, CatalogId, Counts, DataFileRecord, FileId, Outcome, Refusal, SnapshotId, TablesView};
+use std::cell::{OnceCell, RefCell};
+use std::collections::{HashMap, HashSet};
+
+/// As many words as one answer can have: 2 GiB of them.
+pub const MOST_WORDS: u64 = 1 << 28;
+
+/// As many words as the answers of a list have room for: 32 MiB. A longer answer is asked for by itself.
+pub const LIST_WORDS: u64 = 1 << 22;
+
+/// A reading, with what it takes.
+#[derive(Clone, Debug, PartialEq, Eq, Hash)]
+pub enum Reading {
+    ByTime(u64),
+    Schemas(SnapshotId),
+    Tables(SnapshotId, CatalogId),
+    Columns(SnapshotId, CatalogId),
+    TableByName(SnapshotId, CatalogId, String),
+    /// With a column and a value those that may hold a row with it.
+    Files(SnapshotId, CatalogId, Option<(u64, i64)>),
+    Rows(SnapshotId, CatalogId),
+    Lookup(FileId),
+}
+
+impl Reading {
+    fn call(&self, lent: TablesView<'_>, counts: Counts, area: &mut [u64]) -> Outcome {
+        match self {
+            Reading::ByTime(time) => raw::snapshot_by_time(lent, counts, *time, area),
+            Reading::Schemas(at) => raw::list_schemas(lent, counts, *at, area),
+            Reading::Tables(at, schema) => raw::list_tables(lent, counts, *at, *schema, area),
+            Reading::Columns(at, table) => raw::list_columns(lent, counts, *at, *table, area),
+            Reading::TableByName(at, schema, name) => raw::table_by_name(lent, counts, *at, *schema, name.as_bytes(), area),
+            Reading::Files(at, table, None) => raw::list_files(lent, counts, *at, *table, area),
+            Reading::Files(at, table, Some((column, scalar))) => raw::list_filtered_files(lent, counts, *at, *table, *column, *scalar, area),
+            Reading::Rows(at, table) => raw::list_rows(lent, counts, *at, *table, area),
+            Reading::Lookup(file) => raw::copy_file(lent, counts, *file, area),
+        }
+    }
+
+    fn push(&self, list: &mut CallList) {
+        match self {
+            Reading::ByTime(time) => list.push_snapshot_by_time(*time),
+            Reading::Schemas(at) => list.push_list_schemas(*at),
+            Reading::Tables(at, schema) => list.push_list_tables(*at, *schema),
+            Reading::Columns(at, table) => list.push_list_columns(*at, *table),
+            Reading::TableByName(at, schema, name) => list.push_table_by_name(*at, *schema, name),
+            Reading::Files(at, table, None) => list.push_list_files(*at, *table),
+            Reading::Files(at, table, Some((column, scalar))) => list.push_list_filtered_files(*at, *table, *column, *scalar),
+            Reading::Rows(at, table) => list.push_list_rows(*at, *table),
+            Reading::Lookup(file) => list.push_copy_file(*file),
+        }
+    }
+
+    /// Words that the answer has at most; tables that are not sound are refused whatever the area.
+    pub fn most(&self, lake: &Lake) -> u64 {
+        let (view, counts) = (lake.view(), lake.counts());
+        match self {
+            Reading::ByTime(_) | Reading::TableByName(..) => 1,
+            Reading::Schemas(_) => view.schemas.chunks_exact(SchemaRecord::SIZE).take(counts.schemas).count() as u64,
+            Reading::Tables(_, schema) => {
+                let tables = view.tables.chunks_exact(TableRecord::SIZE).take(counts.tables);
+                tables.filter(|table| table[TableRecord::SCHEMA] == schema.0).count() as u64
+            }
+            Reading::Columns(..) => COLUMN_LIMIT as u64,
+            Reading::Files(_, table, _) => 2 * records::data_files(lake).filter(|file| file.table == *table).count() as u64,
+            Reading::Rows(at, table) => {
+                let of_table = |file: &DataFileRecord| file.table == *table && records::live(file.begin, file.end, *at);
+                records::data_files(lake).filter(of_table).fold(0, |sum: u64, file| sum.saturating_add(file.record_count))
+            }
+            Reading::Lookup(_) => DataFileRecord::SIZE as u64,
+        }
+    }
+}
+
+/// A catalogue that answers readings.
+pub trait Source {
+    fn lake(&self) -> &Lake;
+
+    fn answer(&self, reading: &Reading) -> Result<Vec<u64>, Refusal>;
+}
+
+/// A call for each reading, with an area that has room for any answer, so that one is enough.
+impl Source for Lake {
+    fn lake(&self) -> &Lake {
+        self
+    }
+
+    fn answer(&self, reading: &Reading) -> Result<Vec<u64>, Refusal> {
+        // more than can be held is asked for with no room at all: if nothing else is amiss, that is the answer
+        let most = reading.most(self);
+        let mut area = vec![0; if most <= MOST_WORDS { most as usize } else { 0 }];
+        let given = Refusal::judge(timed(|| reading.call(self.view(), self.counts(), &mut area)))?;
+        area.truncate(given.length);
+        Ok(area)
+    }
+}
+
+/// Reads with few calls. What will be asked is found by reading once from [`Guess`], whose answers nobody sees; then it is asked in a list, and what is given
+/// is read from those answers. A reading that was not foreseen is a call by itself, so the guesses decide how many calls there are and nothing else.
+pub fn in_one_list<Given>(lake: &mut Lake, read: impl Fn(&dyn Source) -> Given) -> Given {
+    let guess = Guess::new(lake);
+    read(&guess);
+    let asked = guess.asked.into_inner();
+    let answers = if asked.len() > 1 { play(lake, &asked) } else { HashMap::new() };
+    read(&Known { lake, answers })
+}
+
+/// The answers of a list: of a few lists where they have no room in one.
+fn play(lake: &mut Lake, asked: &[Reading]) -> HashMap<Reading, Result<Vec<u64>, Refusal>> {
+    let sized = asked.iter().map(|reading| (reading, reading.most(lake)));
+    let sized: Vec<(&Reading, u64)> = sized.filter(|(_, most)| *most <= LIST_WORDS).collect();
+    let mut answers = HashMap::new();
+    let mut rest = &sized[..];
+    while !rest.is_empty() {
+        let (mut list, mut room) = (CallList::new(), 0);
+        for (reading, most) in rest {
+            if room + most > LIST_WORDS {
+                break;
+            }
+            room += most;
+            reading.push(&mut list);
+        }
+        let mut area = vec![0; room as usize];
+        let given = timed(|| lake.play(&list, &mut area));
+        let (played, later) = rest.split_at(list.len());
+        // what found no room is asked for by itself
+        let given = played.iter().zip(given).filter(|(_, given)| given.is_ok() || given.is_err_and(|refusal| refusal.number != SHORT_ANSWER_AREA));
+        answers.extend(given.map(|((reading, _), given)| ((*reading).clone(), given.map(<[u64]>::to_vec))));
+        rest = later;
+    }
+    answers
+}
+
+/// The answers of a list, and calls for what it did not ask.
+struct Known<'a> {
+    lake: &'a Lake,
+    answers: HashMap<Reading, Result<Vec<u64>, Refusal>>,
+}
+
+impl Source for Known<'_> {
+    fn lake(&self) -> &Lake {
+        self.lake
+    }
+
+    fn answer(&self, reading: &Reading) -> Result<Vec<u64>, Refusal> {
+        self.answers.get(reading).cloned().unwrap_or_else(|| self.lake.answer(reading))
+    }
+}
+
+/// What the records say as they lie, sound or not: the ids that another reading may take, and no files or rows. It notes what it is asked.
+struct Guess<'a> {
+    lake: &'a Lake,
+    /// Read where they are needed, and once.
+    tables: OnceCell<Vec<(TableRecord, String)>>,
+    columns: OnceCell<Vec<ColumnRecord>>,
+    seen: RefCell<HashSet<Reading>>,
+    asked: RefCell<Vec<Reading>>,
+}
+
+impl Guess<'_> {
+    fn new(lake: &Lake) -> Guess<'_> {
+        Guess { lake, tables: OnceCell::new(), columns: OnceCell::new(), seen: RefCell::default(), asked: RefCell::default() }
+    }
+
+    fn tables(&self, at: SnapshotId, schema: CatalogId) -> impl Iterator<Item = &(TableRecord, String)> {
+        let tables = self.tables.get_or_init(|| records::tables(self.lake).collect());
+        tables.iter().filter(move |(table, _)| table.schema == schema && records::live(table.begin, table.end, at))
+    }
+
+    fn columns(&self, at: SnapshotId, table: CatalogId) -> impl Iterator<Item = &ColumnRecord> {
+        let columns = self.columns.get_or_init(|| records::columns(self.lake).map(|(column, _)| column).collect());
+        columns.iter().filter(move |column| column.table == table && records::live(column.begin, column.end, at))
+    }
+}
+
+impl Source for Guess<'_> {
+    fn lake(&self) -> &Lake {
+        self.lake
+    }
+
+    fn answer(&self, reading: &Reading) -> Result<Vec<u64>, Refusal> {
+        if self.seen.borrow_mut().insert(reading.clone()) {
+            self.asked.borrow_mut().push(reading.clone());
+        }
+        let one = |found: Option<u64>, number: u64| found.map(|id| vec![id]).ok_or(Refusal { number, place: 0 });
+        match reading {
+            Reading::ByTime(time) => {
+                let found = records::snapshots(self.lake).rev().find(|snapshot| snapshot.time <= *time);
+                one(found.map(|snapshot| snapshot.id.0), NO_SNAPSHOT_BY_THEN)
+            }
+            Reading::Schemas(at) => {
+                let live = records::schemas(self.lake).filter(|(schema, _)| records::live(schema.begin, schema.end, *at));
+                Ok(live.map(|(schema, _)| schema.id.0).collect())
+            }
+            Reading::Tables(at, schema) => Ok(self.tables(*at, *schema).map(|(table, _)| table.id.0).collect()),
+            Reading::Columns(at, table) => Ok(self.columns(*at, *table).map(|column| column.id).collect()),
+            Reading::TableByName(at, schema, name) => {
+                one(self.tables(*at, *schema).find(|(_, own)| own == name).map(|(table, _)| table.id.0), NOT_LIVE)
+            }
+            Reading::Files(..) | Reading::Rows(..) => Ok(Vec::new()),
+            Reading::Lookup(_) => Err(Refusal { number: NOT_LIVE, place: 0 }),
+        }
+    }
+}
