@@ -1,7 +1,8 @@
 //! The command `gukoremo`: a DuckLake 0.3 snapshot catalogue in a file, over the proved calls of `host/gukoremo`.
 //!
-//! What a catalogue does stands in the calls. Here are the words of the command (`arguments`, `values`), the file (`format`, `file`, `lock`, `beside`, `rights`), readings (`source`, `ask`), answers (`list`)
-//! and refusals in full (`refused`); a file for each sort of command. A library, so that tests reach all of it; `main.rs` is the command.
+//! What a catalogue does stands in the calls. Here are the words of the command (`arguments`, `values`), the file (`format`, `file`, `lock`, `beside`,
+//! `rights`), readings (`source`, `ask`), answers (`list`) and refusals in full (`refused`); a file for each sort of command. A library, so that tests reach
+//! all of it; `main.rs` is the command.
 #![forbid(unsafe_code)]
 
 pub mod arguments;

@@ -22,3 +22,23 @@ fn files_at_the_limits() {
     println!("files at the limits: {best}");
     assert!(own(best) < 50.0, "{best}");
 }
+
+/// It asks four readings of each schema or table, and the tables are not judged for each: the calls take less than as many checks as there are tables.
+#[test]
+fn diff_at_the_limits() {
+    let folder = Folder::new("diff-limits");
+    let (a, b) = (folder.path("a.lake"), folder.path("b.lake"));
+    std::fs::write(&a, bytes(large(4096))).expect("written");
+    std::fs::copy(&a, &b).expect("copied");
+    let calls = |words: &[&str]| {
+        let output = gukoremo(&[words, &["--timing"]].concat());
+        assert!(output.status.success(), "{words:?}");
+        let said = String::from_utf8_lossy(&output.stderr).into_owned();
+        said.split("calls ").nth(1).and_then(|rest| rest.split(' ').next()?.parse::<f64>().ok()).expect("a time")
+    };
+    // one reading, which is a check and little more
+    let check = calls(&["snapshots", text(&a)]);
+    let diff = calls(&["diff", text(&a), text(&b)]);
+    println!("diff at the limits: calls {diff:.3} ms, a check {check:.3} ms");
+    assert!(diff < 4096.0 * check, "calls {diff} ms, a check {check} ms");
+}
