@@ -138,8 +138,7 @@ impl Stage {
             }
         }
         let all = words.iter().chain(&bytes).chain(&self.area);
-        all.flat_map(|word| word.to_le_bytes())
-            .fold(0xcbf2_9ce4_8422_2325, |sum, byte| (sum ^ u64::from(byte)).wrapping_mul(0x0000_0100_0000_01b3))
+        all.flat_map(|word| word.to_le_bytes()).fold(0xcbf2_9ce4_8422_2325, |sum, byte| (sum ^ u64::from(byte)).wrapping_mul(0x0000_0100_0000_01b3))
     }
 
     fn count(&mut self, given: &mut Arguments<'_>) -> Result<(), String> {
