@@ -1,17 +1,20 @@
 //! A catalogue: tables with their counts, and the calls as methods.
 
-use crate::answers::{File, Handed, Listed};
+use crate::answers::{File, Handed, Listed, LISTED_SIZE};
 use crate::list::CallList;
-use crate::number::{CatalogId, FileId, RowId, SnapshotId, HANDED_SIZE};
-use crate::outcome::{Counts, Outcome, ACCEPTED, SHORT_ANSWER_AREA};
+use crate::number::{CatalogId, FileId, RowId, SnapshotId, COLUMN_LIMIT, HANDED_SIZE};
+use crate::outcome::{Counts, Outcome, ACCEPTED};
 use crate::raw;
 use crate::record::{DataFileRecord, DeleteFileRecord, SnapshotRecord, Uuid};
 use crate::refusal::Refusal;
-use crate::room;
+use crate::room::{self, rows_of, Most};
 use crate::session::TOLD_SIZE;
 use crate::tables::{Lend, Tables, TablesView};
 use crate::unsound::Line;
 use crate::values::{NewColumn, NewStatistics};
+
+/// As many words as the answer of a reading may have here: 2 GiB of them. The calls of [`crate::raw`] take an area of any length.
+pub const ANSWER_LIMIT: usize = 1 << 28;
 
 /// A catalogue in tables that it owns ([`crate::OwnedTables`]) or that are lent to it ([`Tables`]).
 pub struct Catalog<T: Lend> {
@@ -143,53 +146,58 @@ impl<T: Lend> Catalog<T> {
 
     /// By id.
     pub fn list_schemas(&self, snapshot: SnapshotId) -> Result<Vec<CatalogId>, Refusal> {
-        let words = self.read(|lent, counts, area| raw::list_schemas(lent, counts, snapshot, area))?;
+        let words = self.read(self.most().schemas, |lent, counts, area| raw::list_schemas(lent, counts, snapshot, area))?;
         Ok(words.into_iter().map(CatalogId).collect())
     }
 
     /// By id.
     pub fn list_tables(&self, snapshot: SnapshotId, schema: CatalogId) -> Result<Vec<CatalogId>, Refusal> {
-        let words = self.read(|lent, counts, area| raw::list_tables(lent, counts, snapshot, schema, area))?;
+        let words = self.read(self.most().tables, |lent, counts, area| raw::list_tables(lent, counts, snapshot, schema, area))?;
         Ok(words.into_iter().map(CatalogId).collect())
     }
 
     /// The ids of the columns, by column_order.
     pub fn list_columns(&self, snapshot: SnapshotId, table: CatalogId) -> Result<Vec<u64>, Refusal> {
-        self.read(|lent, counts, area| raw::list_columns(lent, counts, snapshot, table, area))
+        self.read(COLUMN_LIMIT, |lent, counts, area| raw::list_columns(lent, counts, snapshot, table, area))
     }
 
     pub fn table_by_name(&self, snapshot: SnapshotId, schema: CatalogId, name: impl AsRef<[u8]>) -> Result<CatalogId, Refusal> {
-        let words = self.read(|lent, counts, area| raw::table_by_name(lent, counts, snapshot, schema, name.as_ref(), area))?;
+        let words = self.read(1, |lent, counts, area| raw::table_by_name(lent, counts, snapshot, schema, name.as_ref(), area))?;
         Ok(CatalogId(words[0]))
     }
 
     /// By id.
     pub fn list_files(&self, snapshot: SnapshotId, table: CatalogId) -> Result<Vec<Listed>, Refusal> {
-        let words = self.read(|lent, counts, area| raw::list_files(lent, counts, snapshot, table, area))?;
+        let words = self.read(LISTED_SIZE * self.most().data_files, |lent, counts, area| raw::list_files(lent, counts, snapshot, table, area))?;
         Ok(Listed::read_all(&words))
     }
 
     /// The files that may hold a row with that value in the column, by their statistics.
     pub fn list_filtered_files(&self, snapshot: SnapshotId, table: CatalogId, column: u64, scalar: i64) -> Result<Vec<Listed>, Refusal> {
-        let words = self.read(|lent, counts, area| raw::list_filtered_files(lent, counts, snapshot, table, column, scalar, area))?;
+        let words = self.read(LISTED_SIZE * self.most().data_files, |lent, counts, area| {
+            raw::list_filtered_files(lent, counts, snapshot, table, column, scalar, area)
+        })?;
         Ok(Listed::read_all(&words))
     }
 
-    /// The rows of each file after those of the file before.
+    /// The rows of each file after those of the file before. An answer of more than [`ANSWER_LIMIT`] words, or one for which there is no memory, is refused
+    /// with [`crate::outcome::SHORT_ANSWER_AREA`].
     pub fn list_rows(&self, snapshot: SnapshotId, table: CatalogId) -> Result<Vec<RowId>, Refusal> {
-        let words = self.read(|lent, counts, area| raw::list_rows(lent, counts, snapshot, table, area))?;
+        let words = self.read(rows_of(self.lent.view(), self.counts, snapshot, table), |lent, counts, area| {
+            raw::list_rows(lent, counts, snapshot, table, area)
+        })?;
         Ok(words.into_iter().map(RowId).collect())
     }
 
     /// The highest retained snapshot at or before t.
     pub fn snapshot_by_time(&self, t: u64) -> Result<SnapshotId, Refusal> {
-        let words = self.read(|lent, counts, area| raw::snapshot_by_time(lent, counts, t, area))?;
+        let words = self.read(1, |lent, counts, area| raw::snapshot_by_time(lent, counts, t, area))?;
         Ok(SnapshotId(words[0]))
     }
 
     /// The record of a file that is on record, live or ended.
     pub fn copy_file(&self, id: FileId) -> Result<File, Refusal> {
-        let words = self.read(|lent, counts, area| raw::copy_file(lent, counts, id, area))?;
+        let words = self.read(DataFileRecord::SIZE, |lent, counts, area| raw::copy_file(lent, counts, id, area))?;
         // the tables are sound, so the id is in one of the two, once
         let data_files = self.lent.view().data_files.chunks_exact(DataFileRecord::SIZE).take(self.counts.data_files);
         match data_files.into_iter().any(|file| file[DataFileRecord::ID] == id.0) {
@@ -219,18 +227,19 @@ impl<T: Lend> Catalog<T> {
         Ok(SnapshotRecord::read(&self.lent.view().snapshots[last * SnapshotRecord::SIZE..]))
     }
 
-    /// A reading, on an area that is doubled until the answer has room.
-    fn read(&self, call: impl Fn(TablesView<'_>, Counts, &mut [u64]) -> Outcome) -> Result<Vec<u64>, Refusal> {
-        let mut area = vec![0; 64];
-        loop {
-            match Refusal::judge(call(self.lent.view(), self.counts, &mut area)) {
-                Err(refusal) if refusal.number == SHORT_ANSWER_AREA => area.resize(2 * area.len(), 0),
-                Err(refusal) => return Err(refusal),
-                Ok(given) => {
-                    area.truncate(given.length);
-                    return Ok(area);
-                }
-            }
+    /// A reading, on an area with room for the most words that its answer can have, so that one call is enough.
+    fn read(&self, most: usize, call: impl FnOnce(TablesView<'_>, Counts, &mut [u64]) -> Outcome) -> Result<Vec<u64>, Refusal> {
+        let mut area = Vec::new();
+        // what can't be held is asked for with no room at all: if nothing else is amiss, that is the refusal
+        if most <= ANSWER_LIMIT && area.try_reserve_exact(most).is_ok() {
+            area.resize(most, 0);
         }
+        let given = Refusal::judge(call(self.lent.view(), self.counts, &mut area))?;
+        area.truncate(given.length);
+        Ok(area)
+    }
+
+    fn most(&self) -> Most {
+        Most::of(self.lent.view(), self.counts)
     }
 }

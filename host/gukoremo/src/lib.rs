@@ -31,7 +31,7 @@ mod unsound;
 mod values;
 
 pub use answers::{File, Handed, Listed};
-pub use catalog::Catalog;
+pub use catalog::{Catalog, ANSWER_LIMIT};
 pub use list::CallList;
 pub use number::{CatalogId, FileId, RowId, SnapshotId};
 pub use outcome::{Counts, Outcome};

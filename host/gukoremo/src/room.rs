@@ -2,7 +2,7 @@
 
 use crate::answers::LISTED_SIZE;
 use crate::list::CallList;
-use crate::number::{COLUMN_LIMIT, HANDED_SIZE, RECORD_COUNT_LIMIT};
+use crate::number::{CatalogId, SnapshotId, COLUMN_LIMIT, HANDED_SIZE, RECORD_COUNT_LIMIT};
 use crate::outcome::Counts;
 use crate::record::{DataFileRecord, CREATED_SCHEMA, CREATED_TABLE, DELETED_FROM_TABLE, INSERTED_INTO_TABLE};
 use crate::session::{
@@ -12,10 +12,10 @@ use crate::session::{
 use crate::tables::TablesView;
 
 /// What there can be at most, call by call.
-struct Most {
-    schemas: usize,
-    tables: usize,
-    data_files: usize,
+pub struct Most {
+    pub schemas: usize,
+    pub tables: usize,
+    pub data_files: usize,
     rows: usize,
     /// Files that no cleanup has had room for yet.
     files: usize,
@@ -23,16 +23,15 @@ struct Most {
 
 /// Words of an area in which every answer of a list has room. A count that the tables have no room for is refused whatever the area.
 pub fn room_for(list: &CallList, view: TablesView<'_>, counts: Counts) -> usize {
-    let data_files = counts.data_files.min(view.data_files.len());
-    let record_counts = view.data_files.chunks_exact(DataFileRecord::SIZE).take(data_files).map(|file| file[DataFileRecord::RECORD_COUNT]);
-    let mut most = Most {
-        schemas: counts.schemas.min(view.schemas.len()),
-        tables: counts.tables.min(view.tables.len()),
-        data_files,
-        rows: record_counts.map(rows).sum(),
-        files: data_files + counts.delete_files.min(view.delete_files.len()) + counts.scheduled.min(view.scheduled.len()),
-    };
+    let mut most = Most::of(view, counts);
     list.calls.chunks_exact(CallRecord::SIZE).fold(0, |room: usize, record| room.saturating_add(most.words_of(record)))
+}
+
+/// Rows of a table at a snapshot, those that are deleted too: the most words that a list of them can have.
+pub fn rows_of(view: TablesView<'_>, counts: Counts, snapshot: SnapshotId, table: CatalogId) -> usize {
+    let files = view.data_files.chunks_exact(DataFileRecord::SIZE).take(counts.data_files).map(DataFileRecord::read);
+    let listed = files.filter(|file| file.table == table && file.begin.0 <= snapshot.0 && snapshot.0 < file.end.0);
+    listed.fold(0, |sum: usize, file| sum.saturating_add(rows(file.record_count)))
 }
 
 /// A file of more rows is refused.
@@ -41,6 +40,18 @@ fn rows(record_count: u64) -> usize {
 }
 
 impl Most {
+    pub fn of(view: TablesView<'_>, counts: Counts) -> Most {
+        let data_files = counts.data_files.min(view.data_files.len());
+        let record_counts = view.data_files.chunks_exact(DataFileRecord::SIZE).take(data_files).map(|file| file[DataFileRecord::RECORD_COUNT]);
+        Most {
+            schemas: counts.schemas.min(view.schemas.len()),
+            tables: counts.tables.min(view.tables.len()),
+            data_files,
+            rows: record_counts.map(rows).sum(),
+            files: data_files + counts.delete_files.min(view.delete_files.len()) + counts.scheduled.min(view.scheduled.len()),
+        }
+    }
+
     /// Words for a record's answer, and what there can be after it. What a cleanup does not hand out, a later one has that room for.
     fn words_of(&mut self, record: &[u64]) -> usize {
         match record[CallRecord::KIND] {

@@ -323,3 +323,34 @@ fn lent_tables_and_tables_that_were_kept() {
     assert_eq!(first_line(&kept, Counts { positions: 2, ..counts }), DELETES_LINE);
     assert_eq!(number(Catalog::fresh(OwnedTables::default(), 100).map(|_| ())), NO_ROOM);
 }
+
+/// Rows by the thousand are one answer; more than there may be are refused, and nothing is taken for them.
+#[test]
+fn many_rows() {
+    const FILES: usize = 258;
+    let room = Counts {
+        snapshots: FILES + 2,
+        schemas: 1,
+        tables: 1,
+        columns: 2,
+        data_files: FILES,
+        delete_files: 0,
+        positions: 0,
+        statistics: 2 * FILES,
+        scheduled: 0,
+    };
+    let mut lake = Catalog::fresh(OwnedTables::with_room(room), 100).expect("room");
+    lake.create_table(110, MAIN, "diary", &columns()).expect("a table");
+    let mut list = CallList::new();
+    for low in 0..FILES as u64 {
+        let rows = if low == 0 { 65_281 } else { 1 << 20 };
+        list.push_insert(120, DIARY, rows, uuid(low), &statistics((1, 2), (3, 4), 0));
+    }
+    assert!(lake.play(&list, &mut []).iter().all(Result::is_ok));
+    let rows = lake.list_rows(SnapshotId(2), DIARY).expect("the first file's");
+    assert_eq!((rows.len(), rows[0].0, rows[65_280].0), (65_281, 0, 65_280));
+    let latest = SnapshotId(FILES as u64 + 1);
+    assert_eq!(lake.list_rows(latest, DIARY).expect_err("too many").number, SHORT_ANSWER_AREA);
+    assert_eq!(lake.list_rows(latest, CatalogId(7)).expect_err("no such table").number, NOT_LIVE);
+    assert_eq!(lake.list_files(latest, DIARY).expect("files").len(), FILES);
+}
