@@ -1,11 +1,8 @@
 //! Calls and readings in the words of a list that `catalog_play` takes, and out of them again, as crates/call_lists/specs says.
 
 use crate::step::{self, Argument, Step};
-use gukoremo::record::{CREATED_SCHEMA, CREATED_TABLE, DELETED_FROM_TABLE, DROPPED_SCHEMA, DROPPED_TABLE, INSERTED_INTO_TABLE};
-use gukoremo::session::{
-    CallRecord, CLEANED_UP, COPIED_FILE, EXPIRED_SNAPSHOTS, FOUND_SNAPSHOT_BY_TIME, FOUND_TABLE_BY_NAME, LISTED_COLUMNS, LISTED_FILES,
-    LISTED_FILTERED_FILES, LISTED_ROWS, LISTED_SCHEMAS, LISTED_TABLES, MADE_FRESH,
-};
+use gukoremo::record::{CREATED_TABLE, INSERTED_INTO_TABLE};
+use gukoremo::session::{CallRecord, MADE_FRESH};
 use gukoremo::{CallList, CatalogId, FileId, SnapshotId, Uuid};
 use second::{Call, Reading};
 
@@ -71,57 +68,12 @@ fn push_reading(list: &mut CallList, reading: &Reading) {
     }
 }
 
+/// The list as the second implementation takes it.
+pub fn second_list(list: &CallList) -> second::CallList<'_> {
+    second::CallList { calls: &list.calls, lists: &list.lists, names: &list.names }
+}
+
 /// The step that a record of a list is; none where it asks for nothing, or where there is no such record.
 pub fn step_at(list: &CallList, i: usize) -> Option<Step> {
-    let record = list.calls.chunks_exact(CallRecord::SIZE).nth(i)?;
-    let kind = record[CallRecord::KIND];
-    let (words, name, names) = arguments_at(list, record)?;
-    let call = call_of(kind, record, words, name.clone(), names).filter(|call| i == 0 || !matches!(call, Call::Fresh { .. }));
-    call.map(Step::Call).or_else(|| reading_of(kind, record, name).map(Step::Reading))
-}
-
-/// What the three spans have; none where one of them leaves its run.
-fn arguments_at(list: &CallList, record: &[u64]) -> Option<(Vec<u64>, Vec<u8>, Vec<u8>)> {
-    let [words, name, names] = SPANS.map(|(start, length, _)| (record[start], record[length]));
-    Some((part(&list.lists, words)?, part(&list.names, name)?, part(&list.names, names)?))
-}
-
-/// What a span has of a run; none where it leaves it.
-fn part<W: Copy>(run: &[W], (start, length): (u64, u64)) -> Option<Vec<W>> {
-    let end = start.checked_add(length)?;
-    run.get(usize::try_from(start).ok()?..usize::try_from(end).ok()?).map(<[W]>::to_vec)
-}
-
-fn call_of(kind: u64, record: &[u64], words: Vec<u64>, name: Vec<u8>, names: Vec<u8>) -> Option<Call> {
-    let (time, id) = (record[CallRecord::TIME], record[CallRecord::CATALOG]);
-    let uuid = (record[CallRecord::UUID_HIGH], record[CallRecord::UUID_LOW]);
-    Some(match kind {
-        MADE_FRESH => Call::Fresh { time },
-        CREATED_SCHEMA => Call::CreateSchema { time, name },
-        DROPPED_SCHEMA => Call::DropSchema { time, schema: id },
-        CREATED_TABLE => Call::CreateTable { time, schema: id, name, columns: words, column_names: names },
-        DROPPED_TABLE => Call::DropTable { time, table: id },
-        INSERTED_INTO_TABLE => Call::Insert { time, table: id, record_count: record[CallRecord::RECORD_COUNT], uuid, statistics: words },
-        DELETED_FROM_TABLE => Call::Delete { time, data_file: record[CallRecord::FILE], uuid, positions: words },
-        EXPIRED_SNAPSHOTS => Call::Expire { ids: words, time },
-        CLEANED_UP => Call::Cleanup { t: time },
-        _ => return None,
-    })
-}
-
-fn reading_of(kind: u64, record: &[u64], name: Vec<u8>) -> Option<Reading> {
-    let (snapshot, id) = (record[CallRecord::SNAPSHOT], record[CallRecord::CATALOG]);
-    let (column, scalar) = (record[CallRecord::COLUMN], record[CallRecord::SCALAR] as i64);
-    Some(match kind {
-        LISTED_SCHEMAS => Reading::Schemas { snapshot },
-        LISTED_TABLES => Reading::Tables { snapshot, schema: id },
-        LISTED_COLUMNS => Reading::Columns { snapshot, table: id },
-        FOUND_TABLE_BY_NAME => Reading::TableByName { snapshot, schema: id, name },
-        LISTED_FILES => Reading::Files { snapshot, table: id },
-        LISTED_FILTERED_FILES => Reading::FilteredFiles { snapshot, table: id, column, scalar },
-        LISTED_ROWS => Reading::Rows { snapshot, table: id },
-        FOUND_SNAPSHOT_BY_TIME => Reading::ByTime { t: record[CallRecord::TIME] },
-        COPIED_FILE => Reading::FindFile { id: record[CallRecord::FILE] },
-        _ => return None,
-    })
+    second_list(list).step(i)
 }

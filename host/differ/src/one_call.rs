@@ -1,6 +1,6 @@
 //! A list of calls and readings as one call plays it, `catalog_play`: on the same tables it must leave, answer and tell what they do one by one.
 
-use crate::call_words::step_at;
+use crate::call_words::{second_list, step_at};
 use crate::catalogue::Catalogue;
 use crate::play::{self, difference, Pair};
 use crate::runs;
@@ -10,7 +10,7 @@ use crate::tally::Tally;
 use gukoremo::outcome::ALREADY_DELETED;
 use gukoremo::session::{CallRecord, TOLD_SIZE};
 use gukoremo::CallList;
-use second::Outcome;
+use second::{Outcome, Session};
 use std::fmt::{self, Display, Formatter};
 
 /// What the words of the answer area, and those for what is told, are before.
@@ -84,7 +84,26 @@ impl Lent {
         difference("what is told", &told, &expected(&steps, &offending, &told))?;
         pair.proved = proved;
         pair.compare_tables()?;
-        Ok(Compared { pair, steps, answered })
+        let found = Compared { pair, steps, answered };
+        self.by_the_second(before, &found, &answers, &offending)?;
+        Ok(found)
+    }
+
+    /// The second implementation's own call for lists must do the same.
+    fn by_the_second(&self, before: &Pair, found: &Compared, answers: &[u64], offending: &[Vec<u64>]) -> Result<(), String> {
+        let mut tables = before.second.clone();
+        let (mut area, mut told) = (vec![FILL; self.area], vec![FILL; self.told]);
+        let session = second::play(&mut tables.words, &tables.counts, second_list(&self.list), &mut area, &mut told);
+        let expected_session = Session { played: found.steps.len(), answered: found.answered, counts: found.pair.second.counts };
+        if session != expected_session {
+            return Err(format!("{session:?} from the second's list, and {expected_session:?} one by one"));
+        }
+        difference("the second's answer area", &area, answers)?;
+        difference("what the second tells", &told, &expected(&found.steps, offending, &told))?;
+        match tables.words == found.pair.second.words {
+            true => Ok(()),
+            false => Err("the second's list leaves other tables than its steps one by one".to_string()),
+        }
     }
 }
 

@@ -1,12 +1,7 @@
 //! A call or a reading, and the line that writes it.
 
+pub use second::Step;
 use second::{Call, Reading};
-
-#[derive(Clone, Debug, PartialEq, Eq)]
-pub enum Step {
-    Call(Call),
-    Reading(Reading),
-}
 
 /// The name of a call, as include/gukoremo.h has it without `catalog_`.
 pub fn name(step: &Step) -> &'static str {

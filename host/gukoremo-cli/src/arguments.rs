@@ -3,6 +3,7 @@
 use crate::values::{columns, names, numbers, times, uuids};
 use clap::{value_parser, Arg, ArgAction, Command};
 use std::path::PathBuf;
+use std::sync::LazyLock;
 
 const ABOUT: &str = "\
 A DuckLake 0.3 snapshot catalogue in a file: which files and rows a snapshot holds.
@@ -45,10 +46,13 @@ Exit codes:
 A change is made whole or not at all, and is on the disk when the command ends with 0; with any code but 0 and 3 it
 was not made. docs/COMMAND.md plays a session from init to cleanup.";
 
+/// With what the calls are: proved or not.
+static VERSION: LazyLock<String> = LazyLock::new(|| format!("{} {}", env!("CARGO_PKG_VERSION"), gukoremo::raw::OVER));
+
 /// All commands.
 pub fn command() -> Command {
     Command::new("gukoremo")
-        .version(env!("CARGO_PKG_VERSION"))
+        .version(VERSION.as_str())
         .about("A DuckLake 0.3 snapshot catalogue in a file")
         .long_about(ABOUT)
         .after_help("'gukoremo --help' teaches; 'gukoremo COMMAND --help' tells of one command.")

@@ -14,10 +14,12 @@
 //! | Who can cause which refusal | `refusals` |
 //! | Demand 3 | `calls`, `row_book`, `history` |
 //! | The diary session | `diary` |
+//! | none: lists that one call plays | `call_list` |
 //! | tests | `dice` |
 //!
 //! A point of docs/DECISIONS.md is cited as R and its number.
 
+pub mod call_list;
 pub mod calls;
 pub mod catalog;
 pub mod cleanup;
@@ -38,6 +40,7 @@ pub mod sound;
 pub mod store;
 pub mod types;
 
+pub use call_list::{play, CallList, Session, Step};
 pub use calls::{perform, read, Call, Reading};
 pub use catalog::Catalog;
 pub use cleanup::cleanup;
