@@ -25,9 +25,9 @@ macro_rules! change {
                     scheduled: *mut u64, scheduled_length: usize, counts: Counts, $(_: $raw),*
                 ) -> $result;
             }
-            // Right, since each pointer and length are those of a slice, which is there for the whole call; the runs, the area and what is told are
-            // `&mut`, so that nothing else reaches them meanwhile and none overlaps another; the call asks for nothing more (it has no `requires`), writes
-            // only within them, keeps no pointer, ends, and does not unwind.
+            // SAFETY: each pointer and length are those of a slice, which is there for the whole call. The runs, the area and the reports are `&mut`, so
+            // nothing else reaches them meanwhile and none overlaps another. The call asks for nothing more (it has no `requires`), writes only within
+            // them, keeps no pointer, ends, and does not unwind. The declaration is the call's own (tests/header).
             unsafe {
                 $symbol(
                     lent.snapshots.as_mut_ptr(), lent.snapshots.len(), lent.schemas.as_mut_ptr(), lent.schemas.len(),
@@ -78,9 +78,9 @@ macro_rules! reads {
         }
         $($(#[$doc])*
         pub fn $name(lent: TablesView<'_>, counts: Counts, $($argument: $type,)* area: &mut [u64]) -> Outcome {
-            // Right, since each pointer and length are those of a slice, which is there for the whole call; the area is `&mut`, so that nothing else
-            // reaches it and it overlaps nothing; the call asks for nothing more (it has no `requires`), writes only within the area, keeps no pointer,
-            // ends, and does not unwind.
+            // SAFETY: each pointer and length are those of a slice, which is there for the whole call. The area is `&mut`, so nothing else reaches it and
+            // it overlaps nothing. The call asks for nothing more (it has no `requires`), writes only within the area, keeps no pointer, ends, and does
+            // not unwind. The declaration is the call's own (tests/header).
             unsafe {
                 $symbol(
                     lent.snapshots.as_ptr(), lent.snapshots.len(), lent.schemas.as_ptr(), lent.schemas.len(),
@@ -111,8 +111,8 @@ macro_rules! judges {
         }
         $($(#[$doc])*
         pub fn $name(lent: TablesView<'_>, counts: Counts) -> u64 {
-            // Right, since each pointer and length are those of a slice, which is there for the whole call; the call asks for nothing more (it has no
-            // `requires`), writes nothing, keeps no pointer, ends, and does not unwind.
+            // SAFETY: each pointer and length are those of a slice, which is there for the whole call. The call asks for nothing more (it has no
+            // `requires`), writes nothing, keeps no pointer, ends, and does not unwind. The declaration is the call's own (tests/header).
             unsafe {
                 $symbol(
                     lent.snapshots.as_ptr(), lent.snapshots.len(), lent.schemas.as_ptr(), lent.schemas.len(),
