@@ -49,13 +49,18 @@ static gukoremo_uuid uuid(uint64_t low)
     return u;
 }
 
-/* "A path is `ducklake-{uuid}.parquet`, UUID in lower-case hexadecimal (8-4-4-4-12)". The UUID stands in the same words of data files and delete files. */
-static void print_path(gukoremo_file_id id)
+/* "A path is `ducklake-{uuid}.parquet`, UUID in lower-case hexadecimal (8-4-4-4-12)", of a data file or a delete file. */
+static void print_path(gukoremo_file_id id, int kind)
 {
-    uint64_t file[GUKOREMO_DATA_FILE_SIZE], high, low;
-    accept("file lookup", gukoremo_copy_file(&lent, counts, id, file, LENGTH(file)));
-    high = file[GUKOREMO_DATA_FILE_UUID_HIGH];
-    low = file[GUKOREMO_DATA_FILE_UUID_LOW];
+    const gukoremo_file file = gukoremo_find_file(&lent, counts, id);
+    const int is_data_file = file.kind == GUKOREMO_DATA_FILE;
+    const uint64_t high = file.record[is_data_file ? GUKOREMO_DATA_FILE_UUID_HIGH : GUKOREMO_DELETE_FILE_UUID_HIGH];
+    const uint64_t low = file.record[is_data_file ? GUKOREMO_DATA_FILE_UUID_LOW : GUKOREMO_DELETE_FILE_UUID_LOW];
+    accept("file lookup", file.outcome);
+    if (file.kind != kind) {
+        fprintf(stderr, "file lookup: a file of the other kind\n");
+        exit(1);
+    }
     printf("ducklake-%08" PRIx64 "-%04" PRIx64 "-%04" PRIx64 "-%04" PRIx64 "-%012" PRIx64 ".parquet", high >> 32, high >> 16 & 0xffff, high & 0xffff,
         low >> 48, low & UINT64_C(0xffffffffffff));
 }
@@ -105,10 +110,10 @@ int main(void)
     puts("data_file,delete_file");
     for (i = 0; i < length; i += GUKOREMO_LISTED_SIZE) {
         const gukoremo_file_id data_file = {listed[i]}, delete_file = {listed[i + 1]};
-        print_path(data_file);
+        print_path(data_file, GUKOREMO_DATA_FILE);
         putchar(',');
         if (delete_file.number != GUKOREMO_ABSENT) {
-            print_path(delete_file);
+            print_path(delete_file, GUKOREMO_DELETE_FILE);
         }
         putchar('\n');
     }

@@ -165,7 +165,7 @@ enum {
     GUKOREMO_LISTED_FILTERED_FILES = 205,
     GUKOREMO_LISTED_ROWS = 206,
     GUKOREMO_FOUND_SNAPSHOT_BY_TIME = 207,
-    GUKOREMO_COPIED_FILE = 208
+    GUKOREMO_FOUND_FILE = 208
 };
 
 /* A call or a reading in a list of calls; each reads the words that it takes. A start and a length are a span, of the words in lists or of the bytes in names.
@@ -256,6 +256,19 @@ typedef struct {
     size_t answered;
     gukoremo_counts counts;
 } gukoremo_session;
+
+/* What a lookup of a file gives: the outcome, which sort of file it is, and its record. */
+enum {
+    GUKOREMO_NO_FILE = 0, /* the lookup was refused */
+    GUKOREMO_DATA_FILE = 1,
+    GUKOREMO_DELETE_FILE = 2
+};
+
+typedef struct {
+    gukoremo_outcome outcome;
+    int kind;
+    uint64_t record[GUKOREMO_DATA_FILE_SIZE]; /* as many words as a delete file has */
+} gukoremo_file;
 
 /* The numbers of an outcome. Of several refusals a call gives the first in this order: 1, then 5 to 19 rising, then 4, 2, 3. */
 enum {
@@ -406,8 +419,8 @@ typedef struct {
     gukoremo_words scheduled;
 } gukoremo_tables;
 
-/* The library's own functions. They have every argument of a call, a run as a pointer and a length, and want pointers that are not null; the functions below
- * them are for callers. Every call but the last has an answer area; only readings and cleanups answer in it. */
+/* The library's own functions, gukoremo_raw_. They have every argument of a call, a run as a pointer and a length, and want pointers that are not null; the
+ * functions below them are for callers. Every call but the last has an answer area; only readings and cleanups answer in it. */
 
 #define GUKOREMO_CHANGED                                                                                                                       \
     uint64_t *snapshots, size_t snapshots_length, uint64_t *schemas, size_t schemas_length, uint8_t *schema_names, size_t schema_names_length, \
@@ -423,32 +436,32 @@ typedef struct {
         const uint64_t *statistics, size_t statistics_length, const uint64_t *scheduled, size_t scheduled_length, gukoremo_counts counts
 #define GUKOREMO_AREA uint64_t *area, size_t area_length
 
-gukoremo_outcome catalog_fresh(GUKOREMO_CHANGED, uint64_t time, GUKOREMO_AREA);
-gukoremo_outcome catalog_create_schema(GUKOREMO_CHANGED, gukoremo_terms terms, const uint8_t *name, size_t name_length, GUKOREMO_AREA);
-gukoremo_outcome catalog_drop_schema(GUKOREMO_CHANGED, gukoremo_terms terms, gukoremo_catalog_id schema, GUKOREMO_AREA);
-gukoremo_outcome catalog_create_table(GUKOREMO_CHANGED, gukoremo_terms terms, gukoremo_catalog_id schema, const uint8_t *name, size_t name_length,
+gukoremo_outcome gukoremo_raw_fresh(GUKOREMO_CHANGED, uint64_t time, GUKOREMO_AREA);
+gukoremo_outcome gukoremo_raw_create_schema(GUKOREMO_CHANGED, gukoremo_terms terms, const uint8_t *name, size_t name_length, GUKOREMO_AREA);
+gukoremo_outcome gukoremo_raw_drop_schema(GUKOREMO_CHANGED, gukoremo_terms terms, gukoremo_catalog_id schema, GUKOREMO_AREA);
+gukoremo_outcome gukoremo_raw_create_table(GUKOREMO_CHANGED, gukoremo_terms terms, gukoremo_catalog_id schema, const uint8_t *name, size_t name_length,
     const uint64_t *new_columns, size_t new_columns_length, const uint8_t *new_names, size_t new_names_length, GUKOREMO_AREA);
-gukoremo_outcome catalog_drop_table(GUKOREMO_CHANGED, gukoremo_terms terms, gukoremo_catalog_id table, GUKOREMO_AREA);
-gukoremo_outcome catalog_insert(GUKOREMO_CHANGED, gukoremo_terms terms, gukoremo_catalog_id table, uint64_t record_count, gukoremo_uuid uuid,
+gukoremo_outcome gukoremo_raw_drop_table(GUKOREMO_CHANGED, gukoremo_terms terms, gukoremo_catalog_id table, GUKOREMO_AREA);
+gukoremo_outcome gukoremo_raw_insert(GUKOREMO_CHANGED, gukoremo_terms terms, gukoremo_catalog_id table, uint64_t record_count, gukoremo_uuid uuid,
     const uint64_t *new_statistics, size_t new_statistics_length, GUKOREMO_AREA);
-gukoremo_outcome catalog_delete(GUKOREMO_CHANGED, gukoremo_terms terms, gukoremo_file_id data_file, gukoremo_uuid uuid, const uint64_t *new_positions,
+gukoremo_outcome gukoremo_raw_delete(GUKOREMO_CHANGED, gukoremo_terms terms, gukoremo_file_id data_file, gukoremo_uuid uuid, const uint64_t *new_positions,
     size_t new_positions_length, GUKOREMO_AREA);
-gukoremo_outcome catalog_expire(GUKOREMO_CHANGED, const uint64_t *ids, size_t ids_length, uint64_t time, GUKOREMO_AREA);
-gukoremo_outcome catalog_cleanup(GUKOREMO_CHANGED, uint64_t t, GUKOREMO_AREA);
-gukoremo_session catalog_play(GUKOREMO_CHANGED, const uint64_t *calls, size_t calls_length, const uint64_t *lists, size_t lists_length,
+gukoremo_outcome gukoremo_raw_expire(GUKOREMO_CHANGED, const uint64_t *ids, size_t ids_length, uint64_t time, GUKOREMO_AREA);
+gukoremo_outcome gukoremo_raw_cleanup(GUKOREMO_CHANGED, uint64_t t, GUKOREMO_AREA);
+gukoremo_session gukoremo_raw_play(GUKOREMO_CHANGED, const uint64_t *calls, size_t calls_length, const uint64_t *lists, size_t lists_length,
     const uint8_t *names, size_t names_length, GUKOREMO_AREA, uint64_t *told, size_t told_length);
-gukoremo_outcome catalog_list_schemas(GUKOREMO_READ, gukoremo_snapshot_id snapshot, GUKOREMO_AREA);
-gukoremo_outcome catalog_list_tables(GUKOREMO_READ, gukoremo_snapshot_id snapshot, gukoremo_catalog_id schema, GUKOREMO_AREA);
-gukoremo_outcome catalog_list_columns(GUKOREMO_READ, gukoremo_snapshot_id snapshot, gukoremo_catalog_id table, GUKOREMO_AREA);
-gukoremo_outcome catalog_table_by_name(
+gukoremo_outcome gukoremo_raw_list_schemas(GUKOREMO_READ, gukoremo_snapshot_id snapshot, GUKOREMO_AREA);
+gukoremo_outcome gukoremo_raw_list_tables(GUKOREMO_READ, gukoremo_snapshot_id snapshot, gukoremo_catalog_id schema, GUKOREMO_AREA);
+gukoremo_outcome gukoremo_raw_list_columns(GUKOREMO_READ, gukoremo_snapshot_id snapshot, gukoremo_catalog_id table, GUKOREMO_AREA);
+gukoremo_outcome gukoremo_raw_table_by_name(
     GUKOREMO_READ, gukoremo_snapshot_id snapshot, gukoremo_catalog_id schema, const uint8_t *name, size_t name_length, GUKOREMO_AREA);
-gukoremo_outcome catalog_list_files(GUKOREMO_READ, gukoremo_snapshot_id snapshot, gukoremo_catalog_id table, GUKOREMO_AREA);
-gukoremo_outcome catalog_list_filtered_files(
+gukoremo_outcome gukoremo_raw_list_files(GUKOREMO_READ, gukoremo_snapshot_id snapshot, gukoremo_catalog_id table, GUKOREMO_AREA);
+gukoremo_outcome gukoremo_raw_list_filtered_files(
     GUKOREMO_READ, gukoremo_snapshot_id snapshot, gukoremo_catalog_id table, uint64_t column, int64_t scalar, GUKOREMO_AREA);
-gukoremo_outcome catalog_list_rows(GUKOREMO_READ, gukoremo_snapshot_id snapshot, gukoremo_catalog_id table, GUKOREMO_AREA);
-gukoremo_outcome catalog_snapshot_by_time(GUKOREMO_READ, uint64_t t, GUKOREMO_AREA);
-gukoremo_outcome catalog_copy_file(GUKOREMO_READ, gukoremo_file_id id, GUKOREMO_AREA);
-uint64_t catalog_first_unsound(GUKOREMO_READ);
+gukoremo_outcome gukoremo_raw_list_rows(GUKOREMO_READ, gukoremo_snapshot_id snapshot, gukoremo_catalog_id table, GUKOREMO_AREA);
+gukoremo_outcome gukoremo_raw_snapshot_by_time(GUKOREMO_READ, uint64_t t, GUKOREMO_AREA);
+gukoremo_outcome gukoremo_raw_find_file(GUKOREMO_READ, gukoremo_file_id id, GUKOREMO_AREA);
+uint64_t gukoremo_raw_first_unsound(GUKOREMO_READ);
 
 /* What stands for the null pointer of a run of length 0: a place that is there. Nothing is read or written in it. */
 
@@ -495,21 +508,21 @@ static inline gukoremo_terms gukoremo_at(uint64_t time)
  * Refused with 2 alone. */
 static inline gukoremo_outcome gukoremo_fresh(const gukoremo_tables *runs, gukoremo_counts counts, uint64_t time)
 {
-    return catalog_fresh(GUKOREMO_LENT(runs), counts, time, GUKOREMO_NO_AREA);
+    return gukoremo_raw_fresh(GUKOREMO_LENT(runs), counts, time, GUKOREMO_NO_AREA);
 }
 
 /* Create schema. The object of the new snapshot is its id. Writes a snapshot, a schema and its name. Refused with 1, 8, 9, 10, 4, 2. */
 static inline gukoremo_outcome gukoremo_create_schema(
     const gukoremo_tables *runs, gukoremo_counts counts, uint64_t time, const char *name, size_t name_length)
 {
-    return catalog_create_schema(GUKOREMO_LENT(runs), counts, gukoremo_at(time), GUKOREMO_NAME(name, name_length), GUKOREMO_NO_AREA);
+    return gukoremo_raw_create_schema(GUKOREMO_LENT(runs), counts, gukoremo_at(time), GUKOREMO_NAME(name, name_length), GUKOREMO_NO_AREA);
 }
 
 /* Drop schema, "only if no table in it is live". Writes a snapshot, and the schema's end. Refused with 1, 6, 8, 11, 4, 2. */
 static inline gukoremo_outcome gukoremo_drop_schema(
     const gukoremo_tables *runs, gukoremo_counts counts, uint64_t time, gukoremo_catalog_id schema)
 {
-    return catalog_drop_schema(GUKOREMO_LENT(runs), counts, gukoremo_at(time), schema, GUKOREMO_NO_AREA);
+    return gukoremo_raw_drop_schema(GUKOREMO_LENT(runs), counts, gukoremo_at(time), schema, GUKOREMO_NO_AREA);
 }
 
 /* Create table. For each column GUKOREMO_COLUMN_ARGUMENT_SIZE words in new_columns and a place of GUKOREMO_NAME_SIZE bytes in new_names; columns get ids 1, 2,
@@ -518,14 +531,14 @@ static inline gukoremo_outcome gukoremo_drop_schema(
 static inline gukoremo_outcome gukoremo_create_table(const gukoremo_tables *runs, gukoremo_counts counts, uint64_t time, gukoremo_catalog_id schema,
     const char *name, size_t name_length, const uint64_t *new_columns, size_t new_columns_length, const char *new_names, size_t new_names_length)
 {
-    return catalog_create_table(GUKOREMO_LENT(runs), counts, gukoremo_at(time), schema, GUKOREMO_NAME(name, name_length),
+    return gukoremo_raw_create_table(GUKOREMO_LENT(runs), counts, gukoremo_at(time), schema, GUKOREMO_NAME(name, name_length),
         GUKOREMO_WORDS(new_columns, new_columns_length), GUKOREMO_NAME(new_names, new_names_length), GUKOREMO_NO_AREA);
 }
 
 /* Drop table. Writes a snapshot, and the ends of the table and of its live columns, data files and delete files. Refused with 1, 6, 8, 4, 2. */
 static inline gukoremo_outcome gukoremo_drop_table(const gukoremo_tables *runs, gukoremo_counts counts, uint64_t time, gukoremo_catalog_id table)
 {
-    return catalog_drop_table(GUKOREMO_LENT(runs), counts, gukoremo_at(time), table, GUKOREMO_NO_AREA);
+    return gukoremo_raw_drop_table(GUKOREMO_LENT(runs), counts, gukoremo_at(time), table, GUKOREMO_NO_AREA);
 }
 
 /* Insert: a data file of so many rows, with GUKOREMO_STATISTICS_ARGUMENT_SIZE words for each live column of the table, by ascending id. The new file's id
@@ -534,7 +547,7 @@ static inline gukoremo_outcome gukoremo_drop_table(const gukoremo_tables *runs, 
 static inline gukoremo_outcome gukoremo_insert(const gukoremo_tables *runs, gukoremo_counts counts, uint64_t time, gukoremo_catalog_id table,
     uint64_t record_count, gukoremo_uuid uuid, const uint64_t *new_statistics, size_t new_statistics_length)
 {
-    return catalog_insert(GUKOREMO_LENT(runs), counts, gukoremo_at(time), table, record_count, uuid, GUKOREMO_WORDS(new_statistics, new_statistics_length),
+    return gukoremo_raw_insert(GUKOREMO_LENT(runs), counts, gukoremo_at(time), table, record_count, uuid, GUKOREMO_WORDS(new_statistics, new_statistics_length),
         GUKOREMO_NO_AREA);
 }
 
@@ -543,7 +556,7 @@ static inline gukoremo_outcome gukoremo_insert(const gukoremo_tables *runs, guko
 static inline gukoremo_outcome gukoremo_delete(const gukoremo_tables *runs, gukoremo_counts counts, uint64_t time, gukoremo_file_id data_file,
     gukoremo_uuid uuid, const uint64_t *new_positions, size_t new_positions_length)
 {
-    return catalog_delete(
+    return gukoremo_raw_delete(
         GUKOREMO_LENT(runs), counts, gukoremo_at(time), data_file, uuid, GUKOREMO_WORDS(new_positions, new_positions_length), GUKOREMO_NO_AREA);
 }
 
@@ -552,13 +565,13 @@ static inline gukoremo_outcome gukoremo_delete(const gukoremo_tables *runs, guko
 static inline gukoremo_outcome gukoremo_expire(
     const gukoremo_tables *runs, gukoremo_counts counts, const uint64_t *ids, size_t ids_length, uint64_t time)
 {
-    return catalog_expire(GUKOREMO_LENT(runs), counts, GUKOREMO_WORDS(ids, ids_length), time, GUKOREMO_NO_AREA);
+    return gukoremo_raw_expire(GUKOREMO_LENT(runs), counts, GUKOREMO_WORDS(ids, ids_length), time, GUKOREMO_NO_AREA);
 }
 
 /* Cleanup: hands out GUKOREMO_HANDED_SIZE words of each file scheduled before t, and removes it. Writes the scheduled run and the answer. Refused with 1, 3. */
 static inline gukoremo_outcome gukoremo_cleanup(const gukoremo_tables *runs, gukoremo_counts counts, uint64_t t, uint64_t *area, size_t area_length)
 {
-    return catalog_cleanup(GUKOREMO_LENT(runs), counts, t, GUKOREMO_WORDS(area, area_length));
+    return gukoremo_raw_cleanup(GUKOREMO_LENT(runs), counts, t, GUKOREMO_WORDS(area, area_length));
 }
 
 /* A list of calls and readings, GUKOREMO_CALL_SIZE words each in calls, their arguments in spans of lists and names. Each is made on what the one before left,
@@ -579,7 +592,7 @@ static inline gukoremo_session gukoremo_play(const gukoremo_tables *runs, gukore
     const uint64_t *lists, size_t lists_length, const char *names, size_t names_length, uint64_t *area, size_t area_length, uint64_t *told,
     size_t told_length)
 {
-    return catalog_play(GUKOREMO_LENT(runs), counts, GUKOREMO_WORDS(calls, calls_length), GUKOREMO_WORDS(lists, lists_length),
+    return gukoremo_raw_play(GUKOREMO_LENT(runs), counts, GUKOREMO_WORDS(calls, calls_length), GUKOREMO_WORDS(lists, lists_length),
         GUKOREMO_NAME(names, names_length), GUKOREMO_WORDS(area, area_length), GUKOREMO_WORDS(told, told_length));
 }
 
@@ -589,28 +602,28 @@ static inline gukoremo_session gukoremo_play(const gukoremo_tables *runs, gukore
 static inline gukoremo_outcome gukoremo_list_schemas(
     const gukoremo_tables *runs, gukoremo_counts counts, gukoremo_snapshot_id snapshot, uint64_t *area, size_t area_length)
 {
-    return catalog_list_schemas(GUKOREMO_LENT(runs), counts, snapshot, GUKOREMO_WORDS(area, area_length));
+    return gukoremo_raw_list_schemas(GUKOREMO_LENT(runs), counts, snapshot, GUKOREMO_WORDS(area, area_length));
 }
 
 /* The tables of a schema at a snapshot, by id. Refused with 1, 5, 6, 3. */
 static inline gukoremo_outcome gukoremo_list_tables(const gukoremo_tables *runs, gukoremo_counts counts, gukoremo_snapshot_id snapshot,
     gukoremo_catalog_id schema, uint64_t *area, size_t area_length)
 {
-    return catalog_list_tables(GUKOREMO_LENT(runs), counts, snapshot, schema, GUKOREMO_WORDS(area, area_length));
+    return gukoremo_raw_list_tables(GUKOREMO_LENT(runs), counts, snapshot, schema, GUKOREMO_WORDS(area, area_length));
 }
 
 /* The columns of a table at a snapshot, by column_order. Refused with 1, 5, 6, 3. */
 static inline gukoremo_outcome gukoremo_list_columns(const gukoremo_tables *runs, gukoremo_counts counts, gukoremo_snapshot_id snapshot,
     gukoremo_catalog_id table, uint64_t *area, size_t area_length)
 {
-    return catalog_list_columns(GUKOREMO_LENT(runs), counts, snapshot, table, GUKOREMO_WORDS(area, area_length));
+    return gukoremo_raw_list_columns(GUKOREMO_LENT(runs), counts, snapshot, table, GUKOREMO_WORDS(area, area_length));
 }
 
 /* The table of a schema that bears a name at a snapshot: one word. Refused with 1, 5, 6, 3. */
 static inline gukoremo_outcome gukoremo_table_by_name(const gukoremo_tables *runs, gukoremo_counts counts, gukoremo_snapshot_id snapshot,
     gukoremo_catalog_id schema, const char *name, size_t name_length, uint64_t *area, size_t area_length)
 {
-    return catalog_table_by_name(
+    return gukoremo_raw_table_by_name(
         GUKOREMO_LENT(runs), counts, snapshot, schema, GUKOREMO_NAME(name, name_length), GUKOREMO_WORDS(area, area_length));
 }
 
@@ -618,14 +631,14 @@ static inline gukoremo_outcome gukoremo_table_by_name(const gukoremo_tables *run
 static inline gukoremo_outcome gukoremo_list_files(const gukoremo_tables *runs, gukoremo_counts counts, gukoremo_snapshot_id snapshot,
     gukoremo_catalog_id table, uint64_t *area, size_t area_length)
 {
-    return catalog_list_files(GUKOREMO_LENT(runs), counts, snapshot, table, GUKOREMO_WORDS(area, area_length));
+    return gukoremo_raw_list_files(GUKOREMO_LENT(runs), counts, snapshot, table, GUKOREMO_WORDS(area, area_length));
 }
 
 /* The same list, of the files that may hold a row with that value in the column, by their statistics. Refused with 1, 5, 6, 3. */
 static inline gukoremo_outcome gukoremo_list_filtered_files(const gukoremo_tables *runs, gukoremo_counts counts, gukoremo_snapshot_id snapshot,
     gukoremo_catalog_id table, uint64_t column, int64_t scalar, uint64_t *area, size_t area_length)
 {
-    return catalog_list_filtered_files(
+    return gukoremo_raw_list_filtered_files(
         GUKOREMO_LENT(runs), counts, snapshot, table, column, scalar, GUKOREMO_WORDS(area, area_length));
 }
 
@@ -633,28 +646,41 @@ static inline gukoremo_outcome gukoremo_list_filtered_files(const gukoremo_table
 static inline gukoremo_outcome gukoremo_list_rows(const gukoremo_tables *runs, gukoremo_counts counts, gukoremo_snapshot_id snapshot,
     gukoremo_catalog_id table, uint64_t *area, size_t area_length)
 {
-    return catalog_list_rows(GUKOREMO_LENT(runs), counts, snapshot, table, GUKOREMO_WORDS(area, area_length));
+    return gukoremo_raw_list_rows(GUKOREMO_LENT(runs), counts, snapshot, table, GUKOREMO_WORDS(area, area_length));
 }
 
 /* By time: the highest retained snapshot at or before t, one word. Refused with 1, 7, 3. */
 static inline gukoremo_outcome gukoremo_snapshot_by_time(
     const gukoremo_tables *runs, gukoremo_counts counts, uint64_t t, uint64_t *area, size_t area_length)
 {
-    return catalog_snapshot_by_time(GUKOREMO_LENT(runs), counts, t, GUKOREMO_WORDS(area, area_length));
+    return gukoremo_raw_snapshot_by_time(GUKOREMO_LENT(runs), counts, t, GUKOREMO_WORDS(area, area_length));
 }
 
-/* The record of a data file or delete file, live or ended: its GUKOREMO_DATA_FILE_SIZE or GUKOREMO_DELETE_FILE_SIZE words. Refused with 1, 6, 3. */
-static inline gukoremo_outcome gukoremo_copy_file(
-    const gukoremo_tables *runs, gukoremo_counts counts, gukoremo_file_id id, uint64_t *area, size_t area_length)
+/* A file that is on record, live or ended: the GUKOREMO_DATA_FILE_SIZE words of a data file or the GUKOREMO_DELETE_FILE_SIZE words of a delete file, and
+ * which of the two it is. Refused with 1, 6: then there is no file, and the record is all 0. */
+static inline gukoremo_file gukoremo_find_file(const gukoremo_tables *runs, gukoremo_counts counts, gukoremo_file_id id)
 {
-    return catalog_copy_file(GUKOREMO_LENT(runs), counts, id, GUKOREMO_WORDS(area, area_length));
+    gukoremo_file found;
+    size_t i;
+    for (i = 0; i < GUKOREMO_DATA_FILE_SIZE; i++)
+        found.record[i] = 0;
+    found.kind = GUKOREMO_NO_FILE;
+    found.outcome = gukoremo_raw_find_file(GUKOREMO_LENT(runs), counts, id, found.record, GUKOREMO_DATA_FILE_SIZE);
+    if (found.outcome.number != GUKOREMO_ACCEPTED)
+        return found;
+    /* the tables are sound: the counts fit the runs, and no data file has the id of a delete file */
+    found.kind = GUKOREMO_DELETE_FILE;
+    for (i = 0; i < counts.data_files; i++)
+        if (runs->data_files.at[i * GUKOREMO_DATA_FILE_SIZE + GUKOREMO_DATA_FILE_ID] == id.number)
+            found.kind = GUKOREMO_DATA_FILE;
+    return found;
 }
 
 /* For whoever must mend tables that are refused with GUKOREMO_NOT_SOUND: the first line of 'Sound tables' that doesn't hold, GUKOREMO_SOUND where all do.
  * Writes nothing, and refuses nothing. */
 static inline uint64_t gukoremo_first_unsound(const gukoremo_tables *runs, gukoremo_counts counts)
 {
-    return catalog_first_unsound(GUKOREMO_LENT(runs), counts);
+    return gukoremo_raw_first_unsound(GUKOREMO_LENT(runs), counts);
 }
 
 #undef GUKOREMO_CHANGED

@@ -129,48 +129,48 @@ macro_rules! judges {
 }
 
 changes! {
-    fresh(time: u64) = catalog_fresh(time => u64);
-    create_schema(time: u64, name: &[u8]) = catalog_create_schema(Terms { time } => Terms, name.as_ptr() => *const u8, name.len() => usize);
-    drop_schema(time: u64, schema: CatalogId) = catalog_drop_schema(Terms { time } => Terms, schema => CatalogId);
+    fresh(time: u64) = gukoremo_raw_fresh(time => u64);
+    create_schema(time: u64, name: &[u8]) = gukoremo_raw_create_schema(Terms { time } => Terms, name.as_ptr() => *const u8, name.len() => usize);
+    drop_schema(time: u64, schema: CatalogId) = gukoremo_raw_drop_schema(Terms { time } => Terms, schema => CatalogId);
     /// Two words for each column, type and nulls_allowed, and a place of 32 bytes for its name.
-    create_table(time: u64, schema: CatalogId, name: &[u8], new_columns: &[u64], new_names: &[u8]) = catalog_create_table(
+    create_table(time: u64, schema: CatalogId, name: &[u8], new_columns: &[u64], new_names: &[u8]) = gukoremo_raw_create_table(
         Terms { time } => Terms, schema => CatalogId, name.as_ptr() => *const u8, name.len() => usize, new_columns.as_ptr() => *const u64, new_columns.len() => usize,
         new_names.as_ptr() => *const u8, new_names.len() => usize);
-    drop_table(time: u64, table: CatalogId) = catalog_drop_table(Terms { time } => Terms, table => CatalogId);
+    drop_table(time: u64, table: CatalogId) = gukoremo_raw_drop_table(Terms { time } => Terms, table => CatalogId);
     /// Six words for each live column: column id, null_count, has_min, has_max, min, max.
-    insert(time: u64, table: CatalogId, record_count: u64, uuid: Uuid, new_statistics: &[u64]) = catalog_insert(
+    insert(time: u64, table: CatalogId, record_count: u64, uuid: Uuid, new_statistics: &[u64]) = gukoremo_raw_insert(
         Terms { time } => Terms, table => CatalogId, record_count => u64, uuid => Uuid, new_statistics.as_ptr() => *const u64, new_statistics.len() => usize);
-    delete(time: u64, data_file: FileId, uuid: Uuid, new_positions: &[u64]) = catalog_delete(
+    delete(time: u64, data_file: FileId, uuid: Uuid, new_positions: &[u64]) = gukoremo_raw_delete(
         Terms { time } => Terms, data_file => FileId, uuid => Uuid, new_positions.as_ptr() => *const u64, new_positions.len() => usize);
-    expire(ids: &[u64], time: u64) = catalog_expire(ids.as_ptr() => *const u64, ids.len() => usize, time => u64);
+    expire(ids: &[u64], time: u64) = gukoremo_raw_expire(ids.as_ptr() => *const u64, ids.len() => usize, time => u64);
     /// The answer is three words for each file: id, UUID high, UUID low.
-    cleanup(t: u64) = catalog_cleanup(t => u64);
+    cleanup(t: u64) = gukoremo_raw_cleanup(t => u64);
 }
 
 plays! {
     /// The records of calls and readings, by [`crate::session::CallRecord`], and the runs that their spans lie in.
-    play(calls: &[u64], lists: &[u64], names: &[u8]) = catalog_play(
+    play(calls: &[u64], lists: &[u64], names: &[u8]) = gukoremo_raw_play(
         calls.as_ptr() => *const u64, calls.len() => usize, lists.as_ptr() => *const u64, lists.len() => usize,
         names.as_ptr() => *const u8, names.len() => usize);
 }
 
 reads! {
-    list_schemas(snapshot: SnapshotId) = catalog_list_schemas(snapshot => SnapshotId);
-    list_tables(snapshot: SnapshotId, schema: CatalogId) = catalog_list_tables(snapshot => SnapshotId, schema => CatalogId);
-    list_columns(snapshot: SnapshotId, table: CatalogId) = catalog_list_columns(snapshot => SnapshotId, table => CatalogId);
-    table_by_name(snapshot: SnapshotId, schema: CatalogId, name: &[u8]) = catalog_table_by_name(
+    list_schemas(snapshot: SnapshotId) = gukoremo_raw_list_schemas(snapshot => SnapshotId);
+    list_tables(snapshot: SnapshotId, schema: CatalogId) = gukoremo_raw_list_tables(snapshot => SnapshotId, schema => CatalogId);
+    list_columns(snapshot: SnapshotId, table: CatalogId) = gukoremo_raw_list_columns(snapshot => SnapshotId, table => CatalogId);
+    table_by_name(snapshot: SnapshotId, schema: CatalogId, name: &[u8]) = gukoremo_raw_table_by_name(
         snapshot => SnapshotId, schema => CatalogId, name.as_ptr() => *const u8, name.len() => usize);
     /// The answer is two words for each file: data file, delete file or ABSENT.
-    list_files(snapshot: SnapshotId, table: CatalogId) = catalog_list_files(snapshot => SnapshotId, table => CatalogId);
-    list_filtered_files(snapshot: SnapshotId, table: CatalogId, column: u64, scalar: i64) = catalog_list_filtered_files(
+    list_files(snapshot: SnapshotId, table: CatalogId) = gukoremo_raw_list_files(snapshot => SnapshotId, table => CatalogId);
+    list_filtered_files(snapshot: SnapshotId, table: CatalogId, column: u64, scalar: i64) = gukoremo_raw_list_filtered_files(
         snapshot => SnapshotId, table => CatalogId, column => u64, scalar => i64);
-    list_rows(snapshot: SnapshotId, table: CatalogId) = catalog_list_rows(snapshot => SnapshotId, table => CatalogId);
-    snapshot_by_time(t: u64) = catalog_snapshot_by_time(t => u64);
+    list_rows(snapshot: SnapshotId, table: CatalogId) = gukoremo_raw_list_rows(snapshot => SnapshotId, table => CatalogId);
+    snapshot_by_time(t: u64) = gukoremo_raw_snapshot_by_time(t => u64);
     /// The answer is the eight words of a data file's or of a delete file's record.
-    copy_file(id: FileId) = catalog_copy_file(id => FileId);
+    copy_file(id: FileId) = gukoremo_raw_find_file(id => FileId);
 }
 
 judges! {
     /// The first line of 'Sound tables' that doesn't hold, by the numbers of [`crate::line`].
-    first_unsound() = catalog_first_unsound();
+    first_unsound() = gukoremo_raw_first_unsound();
 }
