@@ -1,4 +1,4 @@
-.PHONY: help test edits run library fuzz bench costs check-times
+.PHONY: help test edits run library install uninstall fuzz bench costs check-times
 
 # Provers at a time, where none is asked for: four times as many as processors, since the crates of a level and the
 # edits of a batch wait for the last, and at most one for each 3 GiB.
@@ -29,6 +29,16 @@ run: ## prove and run the diary program: about 6 minutes, then seconds
 library: ## prove the public calls and write the archive for C and Rust: about 12 minutes, then seconds
 	@sh host/library
 
+# Under PREFIX=/usr/local or another folder, with DESTDIR=.. in front of it. The command is built with cargo over Debian's crates.
+export PREFIX ?= /usr/local
+export DESTDIR
+install: library ## install the command and what C needs under PREFIX=..: about a minute after make library
+	@sh host/packages && cargo build --release --offline --quiet --target-dir target/host --manifest-path host/gukoremo-cli/Cargo.toml
+	@sh host/install
+
+uninstall: ## remove what make install put under PREFIX
+	@sh host/install remove
+
 # Random calls and damaged tables, 100,000 of each or N=..; from the clock's seed or from SEED=.. A difference is
 # printed as the smallest list of calls that shows it.
 fuzz: library ## play N=100000 random calls and damaged tables: about a minute after make library
@@ -36,7 +46,7 @@ fuzz: library ## play N=100000 random calls and damaged tables: about a minute a
 	@target/host/release/differ fuzz $(or $(N),100000) $(SEED)
 
 # The tables of docs/BENCHMARKS.md, measured here.
-bench: library ## measure the calls and lists of them, as ratios (docs/BENCHMARKS.md): a few minutes after make library
+bench: library ## measure calls and lists, as ratios (docs/BENCHMARKS.md): a few minutes after make library
 	@sh host/packages && cargo build --release --offline --quiet --target-dir target/host --manifest-path host/differ/Cargo.toml
 	@target/host/release/differ bench
 

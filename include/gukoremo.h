@@ -22,6 +22,9 @@
 #include <stddef.h>
 #include <stdint.h>
 
+/* as `gukoremo --version` and pkg-config give it */
+#define GUKOREMO_VERSION "0.1.0"
+
 #ifdef __cplusplus
 extern "C" {
 #endif

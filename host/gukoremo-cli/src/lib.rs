@@ -19,12 +19,14 @@ pub mod file;
 pub mod format;
 pub mod list;
 pub mod lock;
+pub mod manual;
 pub mod play;
 pub mod readings;
 pub mod records;
 pub mod refused;
 pub mod rights;
 pub mod runs;
+pub mod setup;
 pub mod source;
 pub mod storage;
 pub mod values;
@@ -38,7 +40,7 @@ use std::time::Instant;
 /// The command, with the words that the process was given.
 pub fn main() -> ExitCode {
     let begin = Instant::now();
-    let given = match arguments::command().try_get_matches() {
+    let given = match arguments::command().subcommands(setup::commands()).try_get_matches() {
         Ok(given) => given,
         Err(error) => {
             let _ = error.print();
@@ -64,6 +66,7 @@ fn run(name: &str, given: &ArgMatches) -> Result<u8, Failure> {
         "diff" => diff::run(given),
         "export" => export::run(given),
         "play" => play::run(given),
+        "man" | "completions" => setup::run(given),
         "snapshots" | "schemas" | "tables" | "columns" | "files" | "rows" | "at" | "lookup" | "scheduled" => readings::run(name, given),
         _ => changes::run(name, given),
     }
