@@ -18,12 +18,9 @@ test: ## prove everything from nothing, try the must-fail edits, run the tests: 
 edits: ## try every must-fail edit, those too that make test has no time for: about 35 minutes
 	@sh tests/edits
 
-# Proves the program `diary` and what it stands on, each crate as soon as those that it depends on are proved, saying so
-# on the way, and runs it: document 01's three lines (README.md says what document 01 is). Minutes the first time,
-# seconds after that. The lines of crates.txt, with a prefix, are the rules: of what a crate depends on the longest
-# chain stands first, and is begun first.
+# Document 01's three lines (README.md says what document 01 is). Minutes the first time, seconds after that.
 run: ## prove and run the diary program: about 6 minutes, then seconds
-	@{ sed -E 's/[a-z_]+/crate.&/g' crates.txt; printf 'crate.%%:\n\t@sh tests/prove $$*\n'; } | $(MAKE) -s -j $$(nproc) -f - crate.diary && target/bin/diary
+	@sh tests/diary
 
 # The public calls as one archive, for include/gukoremo.h and host/gukoremo.
 library: ## prove the public calls and write the archive for C and Rust: about 12 minutes, then seconds
@@ -33,7 +30,7 @@ library: ## prove the public calls and write the archive for C and Rust: about 1
 export PREFIX ?= /usr/local
 export DESTDIR
 install: library ## install the command and what C needs under PREFIX=..: about a minute after make library
-	@sh host/packages && cargo build --release --offline --quiet --target-dir target/host --manifest-path host/gukoremo-cli/Cargo.toml
+	@sh host/packages && cargo build --release --offline --target-dir target/host --manifest-path host/gukoremo-cli/Cargo.toml
 	@sh host/install
 
 uninstall: ## remove what make install put under PREFIX
