@@ -17,7 +17,7 @@
 //! | none: lists that one call plays | `call_list` |
 //! | tests | `dice` |
 //!
-//! A point of docs/DECISIONS.md is cited as R and its number.
+//! R and a number cites a point of docs/READINGS.md or of docs/DECISIONS.md.
 
 pub mod call_list;
 pub mod calls;
