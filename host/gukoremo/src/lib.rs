@@ -9,6 +9,7 @@
 
 mod answers;
 mod catalog;
+mod ids;
 /// The lines of 'Sound tables' by number: the source that the proofs are about.
 #[path = "../../../crates/soundness/src/line.rt"]
 pub mod line;
@@ -28,6 +29,7 @@ mod room;
 pub mod session;
 mod tables;
 mod unsound;
+mod uuid;
 mod values;
 
 pub use answers::{File, Handed, Listed};

@@ -38,11 +38,6 @@ macro_rules! plain {
 }
 
 plain! {
-    SnapshotId { 0 }
-    CatalogId { 0 }
-    FileId { 0 }
-    RowId { 0 }
-    Uuid { high low }
     Counts { snapshots schemas tables columns data_files delete_files positions statistics scheduled }
     Outcome { number place length counts }
     SnapshotRecord { id time schema_version next_catalog_id next_file_id kind object }
@@ -54,21 +49,6 @@ impl Counts {
     /// What a catalogue has before Fresh, which ignores it.
     pub const NONE: Counts =
         Counts { snapshots: 0, schemas: 0, tables: 0, columns: 0, data_files: 0, delete_files: 0, positions: 0, statistics: 0, scheduled: 0 };
-}
-
-impl Uuid {
-    /// "A path is `ducklake-{uuid}.parquet`, UUID in lower-case hexadecimal (8-4-4-4-12), relative to its table."
-    pub fn path(self) -> String {
-        let (high, low) = (self.high, self.low);
-        format!(
-            "ducklake-{:08x}-{:04x}-{:04x}-{:04x}-{:012x}.parquet",
-            high >> 32,
-            high >> 16 & 0xffff,
-            high & 0xffff,
-            low >> 48,
-            low & 0xffff_ffff_ffff
-        )
-    }
 }
 
 impl SnapshotRecord {
