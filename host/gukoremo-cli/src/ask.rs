@@ -6,7 +6,6 @@ use crate::records;
 use crate::refused::{refuse, Asked};
 use crate::source::{Reading, Source, MOST_WORDS};
 use crate::values::names::{Reference, TableReference};
-use gukoremo::outcome::{NOT_LIVE, SHORT_ANSWER_AREA};
 use gukoremo::{CatalogId, FileId, Listed, Refusal, RowId, SnapshotId};
 use std::cell::Cell;
 use std::time::{Duration, Instant};
@@ -75,7 +74,7 @@ pub fn rows(from: &dyn Source, at: SnapshotId, table: CatalogId) -> Result<Vec<R
     let reading = Reading::Rows(at, table);
     match from.answer(&reading) {
         Ok(words) => Ok(words.into_iter().map(RowId).collect()),
-        Err(refusal) if refusal.number == SHORT_ANSWER_AREA => {
+        Err(Refusal::ShortAnswerArea) => {
             Err(Failure::new(code::TOO_MUCH, format!("Table {} has more rows at snapshot {} than can be listed at once.", table.0, at.0))
                 .why(format!("its files have {} rows, and {MOST_WORDS} can be held.", reading.most(from.lake())))
                 .advice("list its files: their row ranges are in 'gukoremo lookup'."))
@@ -93,7 +92,7 @@ pub fn lookup(from: &dyn Source, file: FileId) -> Result<Vec<u64>, Failure> {
 // Names
 
 fn missing(lake: &Lake, at: SnapshotId, thing: String) -> Failure {
-    refuse(Refusal { number: NOT_LIVE, place: 0 }, lake, &Asked::of(at, thing))
+    refuse(Refusal::NotLive, lake, &Asked::of(at, thing))
 }
 
 /// The schema that a person means. An id is passed on as it is: the call that takes it judges it.

@@ -15,7 +15,7 @@ use crate::values::statistics::{self, Statistics};
 use crate::values::{times, uuids};
 use clap::ArgMatches;
 use gukoremo::record::ColumnRecord;
-use gukoremo::{Catalog, CatalogId, FileId, NewColumn, NewStatistics, OwnedTables, SnapshotId, SnapshotRecord, Uuid};
+use gukoremo::{Catalog, CatalogId, FileId, NewColumn, NewStatistics, OwnedTables, Refusal, SnapshotId, SnapshotRecord, Uuid};
 use std::io::Write;
 use std::path::PathBuf;
 use std::time::Duration;
@@ -81,7 +81,7 @@ fn init(given: &ArgMatches) -> Result<u8, Failure> {
     let writing = Writing::create(path(given), wait(given))?;
     let places = given.get_one::<u64>("records").map_or(gukoremo::number::TABLE_LIMIT, |records| *records as usize);
     let fresh = timed(|| Catalog::fresh(OwnedTables::with_room(runs::room(places)), time));
-    let lake = fresh.map_err(|refusal| Failure::new(code::REFUSED + refusal.number as u8, format!("{refusal}.")))?;
+    let lake = fresh.map_err(|refusal| Failure::new(code::REFUSED + refusal.number() as u8, format!("{refusal}.")))?;
     writing.replace(lake)?;
     let sentence =
         format!("{} is a catalogue with the schema main, snapshot 0, and places for {places} records of each kind.", path(given).display());
@@ -148,7 +148,7 @@ fn create_table(lake: &mut Lake, given: &ArgMatches) -> Result<Done, Failure> {
     let asked = |thing: String| Asked { time: Some(time), name, column_names, ..Asked::of(at, thing) };
     let snapshot = made.map_err(|refusal| {
         // 6 is about the schema, 10 about the table
-        let about_schema = refusal.number == gukoremo::outcome::NOT_LIVE;
+        let about_schema = refusal == Refusal::NotLive;
         let thing = if about_schema { format!("schema {reference}") } else { format!("table {reference}.{name}") };
         refuse(refusal, lake, &asked(thing))
     })?;

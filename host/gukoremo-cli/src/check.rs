@@ -23,7 +23,7 @@ pub fn run(given: &ArgMatches) -> Result<u8, Failure> {
         writeln!(out, "{}: not sound.", path.display())?;
         writeln!(out, "{line}")?;
         match place(&lake) {
-            Some(unsound) if u64::from(unsound.rule) == line.number => writeln!(out, "where: {}", record(&lake, unsound)),
+            Some(unsound) if u64::from(unsound.rule) == line.number() => writeln!(out, "where: {}", record(&lake, unsound)),
             _ => writeln!(out, "The second implementation finds another line: the two disagree, and its makers should see this file."),
         }
     })?;

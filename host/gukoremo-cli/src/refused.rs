@@ -8,9 +8,8 @@ use crate::values::columns::type_name;
 use crate::values::statistics::broken_rule;
 use crate::values::{times, uuids};
 use gukoremo::number::{COLUMN_LIMIT, NAME_SIZE};
-use gukoremo::outcome as numbers;
 use gukoremo::record::ColumnRecord;
-use gukoremo::{sentence, FileId, NewStatistics, Refusal, SnapshotId, Uuid};
+use gukoremo::{FileId, NewStatistics, Refusal, SnapshotId, Uuid};
 
 /// What was asked, as far as a refusal can be about it.
 #[derive(Default)]
@@ -40,37 +39,37 @@ impl<'a> Asked<'a> {
 
 /// The failure that a refusal is.
 pub fn refuse(refusal: Refusal, lake: &Lake, asked: &Asked<'_>) -> Failure {
-    let number = refusal.number.min(u64::from(u8::MAX - code::REFUSED)) as u8;
+    let number = refusal.number().min(u64::from(u8::MAX - code::REFUSED)) as u8;
     let (why, advice) = reason(refusal, lake, asked);
-    Failure::new(code::REFUSED + number, format!("refused with {}: {}.", refusal.number, sentence(refusal.number))).why(why).advice(advice)
+    Failure::new(code::REFUSED + number, format!("refused with {}: {}.", refusal.number(), refusal.sentence())).why(why).advice(advice)
 }
 
 fn reason(refusal: Refusal, lake: &Lake, asked: &Asked<'_>) -> (String, String) {
     let latest = records::latest(lake);
     let latest_id = latest.map_or(0, |snapshot| snapshot.id.0);
     let thing = asked.thing.clone().unwrap_or_else(|| "it".to_string());
-    let (why, advice): (String, &str) = match refusal.number {
-        numbers::NOT_SOUND => (
+    let (why, advice): (String, &str) = match refusal {
+        Refusal::NotSound => (
             "the tables in the file break a line of 'Sound tables'.".to_string(),
             "see with 'gukoremo check FILE' which line and which record, and go back to a copy of the file.",
         ),
-        numbers::NO_ROOM => (
+        Refusal::NoRoom => (
             format!("of the records that the file has room for these are used: {}.", fullness(lake)),
             "free records with 'gukoremo expire', or make room with 'gukoremo room FILE --records N', up to 4096.",
         ),
-        numbers::NUMBER_TOO_LARGE => (
+        Refusal::NumberTooLarge => (
             "ids, row numbers and schema versions end there, and this change would count past it.".to_string(),
             "begin a new catalogue with 'gukoremo init'.",
         ),
-        numbers::NOT_RETAINED => (not_retained(lake, asked), "see the snapshots that are there with 'gukoremo snapshots FILE'."),
-        numbers::NOT_LIVE => (
+        Refusal::NotRetained => (not_retained(lake, asked), "see the snapshots that are there with 'gukoremo snapshots FILE'."),
+        Refusal::NotLive => (
             match asked.at {
                 Some(at) => format!("there is no {thing} at snapshot {}.", at.0),
                 None => format!("there is no {thing} on record."),
             },
             "see what is there with 'gukoremo schemas', 'tables', 'columns' or 'files', and give --at for an older snapshot.",
         ),
-        numbers::NO_SNAPSHOT_BY_THEN => (
+        Refusal::NoSnapshotByThen => (
             match records::snapshots(lake).next() {
                 Some(first) => format!(
                     "the first snapshot that is retained is {}, of {}, and you ask for {}.",
@@ -82,7 +81,7 @@ fn reason(refusal: Refusal, lake: &Lake, asked: &Asked<'_>) -> (String, String) 
             },
             "ask for a later time.",
         ),
-        numbers::TIME_FALLS => (
+        Refusal::TimeFalls => (
             format!(
                 "the latest snapshot, {latest_id}, has the time {}, and you give {}.",
                 times::both(latest.map_or(0, |snapshot| snapshot.time)),
@@ -96,28 +95,26 @@ fn reason(refusal: Refusal, lake: &Lake, asked: &Asked<'_>) -> (String, String) 
                 _ => "give that time or a later one with --time; without --time it is the clock's.",
             },
         ),
-        numbers::BAD_NAME => (
+        Refusal::BadName => (
             format!("'{}' has {} bytes; a name is 1 to {NAME_SIZE} ASCII letters, digits or underscores.", asked.name, asked.name.len()),
             "give a name of that form.",
         ),
-        numbers::NAME_TAKEN => (format!("there is a {thing} at snapshot {latest_id}, the latest."), "give another name, or drop that one first."),
-        numbers::SCHEMA_NOT_EMPTY => {
-            (format!("{thing} still has tables."), "drop its tables first: 'gukoremo tables FILE --schema NAME' lists them.")
+        Refusal::NameTaken => (format!("there is a {thing} at snapshot {latest_id}, the latest."), "give another name, or drop that one first."),
+        Refusal::SchemaNotEmpty => (format!("{thing} still has tables."), "drop its tables first: 'gukoremo tables FILE --schema NAME' lists them."),
+        Refusal::BadColumns => (bad_columns(asked), "give 1 to 16 columns, each with a name of its own."),
+        Refusal::BadRecordCount => (format!("you give {} rows.", asked.rows), "give --rows from 1 to 1048576; split a larger file."),
+        Refusal::UuidTaken => (uuid_taken(lake, asked), "give another UUID, or leave --uuid out, and one is made."),
+        Refusal::BadStatistics => (bad_statistics(asked), "give for each column COLUMN=MIN..MAX and, where there are nulls, nulls=N after it."),
+        Refusal::BadPositions => (bad_positions(lake, asked), "give positions once each, from the lowest to the highest, below the file's rows."),
+        Refusal::AlreadyDeleted { index } => {
+            let position = usize::try_from(index).ok().and_then(|at| asked.list.get(at).copied()).unwrap_or(0);
+            (format!("position {position}, at index {index} of your list, is already deleted."), "leave out what is deleted.")
         }
-        numbers::BAD_COLUMNS => (bad_columns(asked), "give 1 to 16 columns, each with a name of its own."),
-        numbers::BAD_RECORD_COUNT => (format!("you give {} rows.", asked.rows), "give --rows from 1 to 1048576; split a larger file."),
-        numbers::UUID_TAKEN => (uuid_taken(lake, asked), "give another UUID, or leave --uuid out, and one is made."),
-        numbers::BAD_STATISTICS => (bad_statistics(asked), "give for each column COLUMN=MIN..MAX and, where there are nulls, nulls=N after it."),
-        numbers::BAD_POSITIONS => (bad_positions(lake, asked), "give positions once each, from the lowest to the highest, below the file's rows."),
-        numbers::ALREADY_DELETED => {
-            let position = usize::try_from(refusal.place).ok().and_then(|at| asked.list.get(at).copied()).unwrap_or(0);
-            (format!("position {position}, at index {} of your list, is already deleted.", refusal.place), "leave out what is deleted.")
-        }
-        numbers::BAD_EXPIRY_LIST => (
+        Refusal::BadExpiryList => (
             if asked.list.is_empty() { "the list is empty.".to_string() } else { "the list is not in order, or names a snapshot twice.".to_string() },
             "give snapshots once each, from the lowest to the highest.",
         ),
-        numbers::EXPIRES_LATEST => (format!("{latest_id} is the latest snapshot, and a catalogue always has one."), "leave it out."),
+        Refusal::ExpiresLatest => (format!("{latest_id} is the latest snapshot, and a catalogue always has one."), "leave it out."),
         _ => (String::new(), ""),
     };
     (why, advice.to_string())

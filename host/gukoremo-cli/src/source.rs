@@ -4,7 +4,6 @@ use crate::ask::timed;
 use crate::file::Lake;
 use crate::records;
 use gukoremo::number::COLUMN_LIMIT;
-use gukoremo::outcome::{NOT_LIVE, NO_SNAPSHOT_BY_THEN, SHORT_ANSWER_AREA};
 use gukoremo::record::{ColumnRecord, SchemaRecord, TableRecord};
 use gukoremo::{raw, CallList, CatalogId, Counts, DataFileRecord, FileId, Outcome, Refusal, SnapshotId, TablesView};
 use std::cell::{OnceCell, RefCell};
@@ -132,7 +131,7 @@ fn play(lake: &mut Lake, asked: &[Reading]) -> HashMap<Reading, Result<Vec<u64>,
         let given = timed(|| lake.play(&list, &mut area));
         let (played, later) = rest.split_at(list.len());
         // what found no room is asked for by itself
-        let given = played.iter().zip(given).filter(|(_, given)| given.is_ok() || given.is_err_and(|refusal| refusal.number != SHORT_ANSWER_AREA));
+        let given = played.iter().zip(given).filter(|(_, given)| *given != Err(Refusal::ShortAnswerArea));
         answers.extend(given.map(|((reading, _), given)| ((*reading).clone(), given.map(<[u64]>::to_vec))));
         rest = later;
     }
@@ -190,11 +189,11 @@ impl Source for Guess<'_> {
         if self.seen.borrow_mut().insert(reading.clone()) {
             self.asked.borrow_mut().push(reading.clone());
         }
-        let one = |found: Option<u64>, number: u64| found.map(|id| vec![id]).ok_or(Refusal { number, place: 0 });
+        let one = |found: Option<u64>, refusal: Refusal| found.map(|id| vec![id]).ok_or(refusal);
         match reading {
             Reading::ByTime(time) => {
                 let found = records::snapshots(self.lake).rev().find(|snapshot| snapshot.time <= *time);
-                one(found.map(|snapshot| snapshot.id.0), NO_SNAPSHOT_BY_THEN)
+                one(found.map(|snapshot| snapshot.id.0), Refusal::NoSnapshotByThen)
             }
             Reading::Schemas(at) => {
                 let live = records::schemas(self.lake).filter(|(schema, _)| records::live(schema.begin, schema.end, *at));
@@ -203,10 +202,10 @@ impl Source for Guess<'_> {
             Reading::Tables(at, schema) => Ok(self.tables(*at, *schema).map(|(table, _)| table.id.0).collect()),
             Reading::Columns(at, table) => Ok(self.columns(*at, *table).map(|column| column.id).collect()),
             Reading::TableByName(at, schema, name) => {
-                one(self.tables(*at, *schema).find(|(_, own)| own == name).map(|(table, _)| table.id.0), NOT_LIVE)
+                one(self.tables(*at, *schema).find(|(_, own)| own == name).map(|(table, _)| table.id.0), Refusal::NotLive)
             }
             Reading::Files(..) | Reading::Rows(..) => Ok(Vec::new()),
-            Reading::Lookup(_) => Err(Refusal { number: NOT_LIVE, place: 0 }),
+            Reading::Lookup(_) => Err(Refusal::NotLive),
         }
     }
 }

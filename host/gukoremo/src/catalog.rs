@@ -3,7 +3,7 @@
 use crate::answers::{File, Handed, Listed, LISTED_SIZE};
 use crate::list::CallList;
 use crate::number::{CatalogId, FileId, RowId, SnapshotId, COLUMN_LIMIT, HANDED_SIZE};
-use crate::outcome::{Counts, Outcome, ACCEPTED};
+use crate::outcome::{Counts, Outcome};
 use crate::raw;
 use crate::record::{DataFileRecord, DeleteFileRecord, SnapshotRecord, Uuid};
 use crate::refusal::Refusal;
@@ -118,7 +118,7 @@ impl<T: Lend> Catalog<T> {
     /// Plays a list of calls and readings, each on what the one before left, a refused one too. Of each it gives the answer, which a reading or a cleanup
     /// alone has, or the refusal; nothing from a record on that asks for nothing, as [`crate::session::CallRecord`] says.
     ///
-    /// The answers lie in the area one behind another. One that is longer than what is left of it is refused with [`SHORT_ANSWER_AREA`], and the list goes
+    /// The answers lie in the area one behind another. One that is longer than what is left of it is refused with [`Refusal::ShortAnswerArea`], and the list goes
     /// on; in an area of [`Catalog::room_for`] words none is.
     pub fn play<'a>(&mut self, list: &CallList, area: &'a mut [u64]) -> Vec<Result<&'a [u64], Refusal>> {
         let mut told = vec![0; list.len() * TOLD_SIZE];
@@ -128,10 +128,7 @@ impl<T: Lend> Catalog<T> {
         let outcome = |told: &[u64]| {
             let (answer, rest) = answers.split_at(told[2] as usize);
             answers = rest;
-            match told[0] {
-                ACCEPTED => Ok(answer),
-                number => Err(Refusal { number, place: told[1] }),
-            }
+            Refusal::of(told[0], told[1]).map_or(Ok(answer), Err)
         };
         told.chunks_exact(TOLD_SIZE).take(session.played).map(outcome).collect()
     }
@@ -181,7 +178,7 @@ impl<T: Lend> Catalog<T> {
     }
 
     /// The rows of each file after those of the file before. An answer of more than [`ANSWER_LIMIT`] words, or one for which there is no memory, is refused
-    /// with [`crate::outcome::SHORT_ANSWER_AREA`].
+    /// with [`Refusal::ShortAnswerArea`].
     pub fn list_rows(&self, snapshot: SnapshotId, table: CatalogId) -> Result<Vec<RowId>, Refusal> {
         let words = self.read(rows_of(self.lent.view(), self.counts, snapshot, table), |lent, counts, area| {
             raw::list_rows(lent, counts, snapshot, table, area)
@@ -207,7 +204,7 @@ impl<T: Lend> Catalog<T> {
     }
 
     /// What the tables are not sound for: the first line of 'Sound tables' that doesn't hold. Of tables that calls are refused for with
-    /// [`crate::outcome::NOT_SOUND`] there is one, and of others none.
+    /// [`Refusal::NotSound`] there is one, and of others none.
     pub fn first_unsound(&self) -> Option<Line> {
         Line::of(raw::first_unsound(self.lent.view(), self.counts))
     }

@@ -38,7 +38,7 @@ pub use list::CallList;
 pub use number::{CatalogId, FileId, RowId, SnapshotId};
 pub use outcome::{Counts, Outcome};
 pub use record::{DataFileRecord, DeleteFileRecord, SnapshotRecord, Uuid};
-pub use refusal::{sentence, Refusal};
+pub use refusal::Refusal;
 pub use session::Session;
 pub use tables::{Lend, OwnedTables, Tables, TablesView};
 pub use unsound::Line;

@@ -47,8 +47,29 @@ plain! {
 
 impl Counts {
     /// What a catalogue has before Fresh, which ignores it.
-    pub const NONE: Counts =
-        Counts { snapshots: 0, schemas: 0, tables: 0, columns: 0, data_files: 0, delete_files: 0, positions: 0, statistics: 0, scheduled: 0 };
+    pub const NONE: Counts = Counts::each(0);
+
+    /// This many records of each kind, and this many positions.
+    ///
+    /// ```
+    /// use gukoremo::{Counts, OwnedTables};
+    ///
+    /// let room = Counts { positions: 100, ..Counts::each(8) };
+    /// assert_eq!(OwnedTables::with_room(room).positions.len(), 100);
+    /// ```
+    pub const fn each(count: usize) -> Counts {
+        Counts {
+            snapshots: count,
+            schemas: count,
+            tables: count,
+            columns: count,
+            data_files: count,
+            delete_files: count,
+            positions: count,
+            statistics: count,
+            scheduled: count,
+        }
+    }
 }
 
 impl SnapshotRecord {

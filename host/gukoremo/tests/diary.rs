@@ -1,14 +1,9 @@
 //! Document 01's diary session through the safe calls: its marked cases and the others, on tables that are owned and on tables that are lent.
 
-use gukoremo::line::{DELETES_LINE, FIELDS_LINE, SNAPSHOTS_LINE, SOUND};
-use gukoremo::outcome::{
-    ALREADY_DELETED, BAD_COLUMNS, BAD_NAME, BAD_RECORD_COUNT, EXPIRES_LATEST, NOT_LIVE, NOT_SOUND, NO_ROOM, NO_SNAPSHOT_BY_THEN, SCHEMA_NOT_EMPTY,
-    SHORT_ANSWER_AREA,
-};
 use gukoremo::session::{CallRecord, MADE_FRESH};
 use gukoremo::{
-    CallList, Catalog, CatalogId, ColumnType, Counts, DataFileRecord, File, FileId, Handed, Lend, Listed, NewColumn, NewStatistics, OwnedTables,
-    Refusal, SnapshotId, Uuid,
+    CallList, Catalog, CatalogId, ColumnType, Counts, DataFileRecord, File, FileId, Handed, Lend, Line, Listed, NewColumn, NewStatistics,
+    OwnedTables, Refusal, SnapshotId, Uuid,
 };
 
 const MAIN: CatalogId = CatalogId(0);
@@ -69,10 +64,6 @@ fn given<T: Lend>(catalog: &mut Catalog<T>, list: &CallList) -> Vec<Result<Vec<u
     catalog.play(list, &mut area).into_iter().map(|answer| answer.map(<[u64]>::to_vec)).collect()
 }
 
-fn refused<V>(number: u64, place: u64) -> Result<V, Refusal> {
-    Err(Refusal { number, place })
-}
-
 fn handed(file: u64, low: u64) -> Handed {
     Handed { file: FileId(file), uuid: uuid(low) }
 }
@@ -82,12 +73,8 @@ fn rows<T: Lend>(catalog: &Catalog<T>, snapshot: u64) -> Vec<u64> {
 }
 
 /// The line of 'Sound tables' that tables break first.
-fn first_line(tables: &OwnedTables, counts: Counts) -> u64 {
-    Catalog::resume(tables.clone(), counts).first_unsound().map_or(SOUND, |line| line.number)
-}
-
-fn number<V>(result: Result<V, Refusal>) -> u64 {
-    result.err().map_or(0, |refusal| refusal.number)
+fn first_line(tables: &OwnedTables, counts: Counts) -> Option<Line> {
+    Catalog::resume(tables.clone(), counts).first_unsound()
 }
 
 #[test]
@@ -104,14 +91,14 @@ fn rows_files_and_times() {
     assert_eq!(catalog.list_files(SnapshotId(5), DIARY).unwrap(), [first, second]);
     // "M by time 119: 1; 99: refusal 7."
     assert_eq!(catalog.snapshot_by_time(119), Ok(SnapshotId(1)));
-    assert_eq!(number(catalog.snapshot_by_time(99)), NO_SNAPSHOT_BY_THEN);
+    assert_eq!(catalog.snapshot_by_time(99).err(), Some(Refusal::NoSnapshotByThen));
     // what the session made, by every other reading
     assert_eq!(catalog.list_schemas(SnapshotId(0)).unwrap(), [MAIN]);
     assert_eq!(catalog.list_tables(SnapshotId(0), MAIN).unwrap(), []);
     assert_eq!(catalog.list_tables(SnapshotId(1), MAIN).unwrap(), [DIARY]);
     assert_eq!(catalog.list_columns(SnapshotId(5), DIARY).unwrap(), [1, 2]);
     assert_eq!(catalog.table_by_name(SnapshotId(5), MAIN, "diary"), Ok(DIARY));
-    assert_eq!(number(catalog.table_by_name(SnapshotId(5), MAIN, "Diary")), NOT_LIVE);
+    assert_eq!(catalog.table_by_name(SnapshotId(5), MAIN, "Diary").err(), Some(Refusal::NotLive));
     assert!(matches!(catalog.copy_file(FileId(1)), Ok(File::Data(file)) if file.record_count == 2 && file.row_id_start.0 == 3));
     assert!(matches!(catalog.copy_file(FileId(3)), Ok(File::Delete(file)) if file.data_file == FileId(0) && file.delete_count == 2));
     assert_eq!(catalog.copy_file(FileId(3)).unwrap().uuid().path(), "ducklake-00000000-0000-0000-0000-000000000004.parquet");
@@ -125,7 +112,7 @@ fn expiry_and_cleanup() {
     assert_eq!(catalog.counts().scheduled, 1);
     assert_eq!(catalog.cleanup(160).unwrap(), []);
     assert_eq!(catalog.cleanup(161).unwrap(), [handed(2, 3)]);
-    assert_eq!(number(catalog.expire(&[SnapshotId(5)], 165)), EXPIRES_LATEST);
+    assert_eq!(catalog.expire(&[SnapshotId(5)], 165).err(), Some(Refusal::ExpiresLatest));
     // "Drop at 170 is snapshot 6; M expire 0 1 2 3 5 then schedules 0, 1, 3."
     assert_eq!(catalog.drop_table(170, DIARY).unwrap().id, SnapshotId(6));
     catalog.expire(&[0, 1, 2, 3, 5].map(SnapshotId), 180).unwrap();
@@ -172,12 +159,12 @@ fn a_list_with_readings() {
     let listed: Vec<Vec<Listed>> = given[5..9].iter().map(|answer| Listed::read_all(answer.unwrap())).collect();
     assert_eq!(listed, [vec![first], vec![], vec![second], vec![first, second]]);
     // "M by time 119: 1; 99: refusal 7."
-    assert_eq!(given[9..11], [Ok(&[1][..]), refused(NO_SNAPSHOT_BY_THEN, 0)]);
-    assert_eq!(given[11..17], [Ok(&[0][..]), Ok(&[]), Ok(&[1]), Ok(&[1, 2]), Ok(&[1]), refused(NOT_LIVE, 0)]);
+    assert_eq!(given[9..11], [Ok(&[1][..]), Err(Refusal::NoSnapshotByThen)]);
+    assert_eq!(given[11..17], [Ok(&[0][..]), Ok(&[]), Ok(&[1]), Ok(&[1, 2]), Ok(&[1]), Err(Refusal::NotLive)]);
     // readings change nothing
     let words = given[17].unwrap();
     assert_eq!(catalog.copy_file(FileId(1)), Ok(File::Data(DataFileRecord::read(words))));
-    assert_eq!(given[18..], [refused(NOT_LIVE, 0)]);
+    assert_eq!(given[18..], [Err(Refusal::NotLive)]);
     assert_eq!(catalog.into_parts(), play(OwnedTables::with_room(ROOM)).unwrap().into_parts());
 }
 
@@ -228,7 +215,7 @@ fn an_answer_without_room_is_refused_and_the_list_goes_on() {
     // three rows, not five, one schema, and not the file's three words
     let mut area = [77; 5];
     let none = Ok(&[][..]);
-    let short = refused(SHORT_ANSWER_AREA, 0);
+    let short = Err(Refusal::ShortAnswerArea);
     assert_eq!(catalog.play(&list, &mut area)[6..], [Ok(&[0, 1, 2][..]), short, none, short, Ok(&[0]), short]);
     assert_eq!(area, [0, 1, 2, 0, 77]);
     assert_eq!(catalog.cleanup(161).unwrap(), [handed(2, 3)]);
@@ -244,7 +231,7 @@ fn a_list_with_maintenance_and_refusals() {
     list.push_delete(155, FileId(1), uuid(6), &[0, 1]);
     list.push_delete(155, FileId(1), uuid(6), &[0]);
     list.push_create_schema(155, "1 2");
-    assert_eq!(given(&mut catalog, &list)[6..], [none(), refused(ALREADY_DELETED, 1), refused(NO_ROOM, 0), refused(BAD_NAME, 0)]);
+    assert_eq!(given(&mut catalog, &list)[6..], [none(), Err(Refusal::AlreadyDeleted { index: 1 }), Err(Refusal::NoRoom), Err(Refusal::BadName)]);
 
     let mut list = CallList::new();
     list.push_expire(&[SnapshotId(4)], 160);
@@ -261,14 +248,14 @@ fn a_list_with_maintenance_and_refusals() {
     let answers = given(&mut catalog, &list);
     assert_eq!(answers[..2], [none(), none()]);
     assert_eq!(answers[2].as_deref().map(Handed::read_all), Ok(vec![handed(2, 3)]));
-    assert_eq!(answers[3..8], [refused(EXPIRES_LATEST, 0), none(), none(), none(), none()]);
+    assert_eq!(answers[3..8], [Err(Refusal::ExpiresLatest), none(), none(), none(), none()]);
     assert_eq!(answers[8].as_deref().map(Handed::read_all), Ok(vec![handed(0, 1), handed(1, 2), handed(3, 4), handed(4, 5)]));
     assert_eq!(answers[9..], [Ok(vec![0, 2]), Ok(vec![0])]);
 
     // no list is refused, whatever the tables and the counts are; Fresh makes tables of them
     let most = Counts { scheduled: usize::MAX, data_files: usize::MAX, delete_files: usize::MAX, ..catalog.counts() };
     let mut unsound = Catalog::resume(catalog.into_parts().0, most);
-    assert_eq!(given(&mut unsound, &list), vec![refused(NOT_SOUND, 0); 11]);
+    assert_eq!(given(&mut unsound, &list), vec![Err(Refusal::NotSound); 11]);
     assert_eq!((given(&mut unsound, &CallList::new()), unsound.counts()), (vec![], most));
     assert_eq!(given(&mut unsound, &session()), vec![none(); 6]);
 }
@@ -279,16 +266,16 @@ fn refusals_change_nothing() {
     let before = catalog.counts();
     // "1,048,576 rows pass; 0 and 1,048,577 give 13. Name of 32 bytes passes; 33: 9."
     for record_count in [0, 1_048_577] {
-        assert_eq!(number(catalog.insert(160, DIARY, record_count, uuid(5), &statistics((1, 1), (1, 1), 0))), BAD_RECORD_COUNT);
+        assert_eq!(catalog.insert(160, DIARY, record_count, uuid(5), &statistics((1, 1), (1, 1), 0)).err(), Some(Refusal::BadRecordCount));
     }
-    assert_eq!(number(catalog.create_table(160, MAIN, "n".repeat(33), &columns())), BAD_NAME);
+    assert_eq!(catalog.create_table(160, MAIN, "n".repeat(33), &columns()).err(), Some(Refusal::BadName));
     let long = "n".repeat(33);
     let too_long = [NewColumn { name: &long, column_type: ColumnType::Int8, nulls_allowed: true }];
-    assert_eq!(number(catalog.create_table(160, MAIN, "t", &too_long)), BAD_COLUMNS);
+    assert_eq!(catalog.create_table(160, MAIN, "t", &too_long).err(), Some(Refusal::BadColumns));
     let again = catalog.delete(160, FileId(0), uuid(5), &[0, 2]).unwrap_err();
-    assert_eq!((again.number, again.place), (ALREADY_DELETED, 0));
+    assert_eq!((again, again.number()), (Refusal::AlreadyDeleted { index: 0 }, 17));
     assert_eq!(again.to_string(), "refused with 17: a position already deleted, at 0 of the list");
-    assert_eq!(number(catalog.delete(160, FileId(0), uuid(5), &[2])), NO_ROOM);
+    assert_eq!(catalog.delete(160, FileId(0), uuid(5), &[2]).err(), Some(Refusal::NoRoom));
     assert_eq!(catalog.counts(), before);
     // the other side
     let room = Counts { snapshots: 10, schemas: 2, ..ROOM };
@@ -298,7 +285,7 @@ fn refusals_change_nothing() {
     assert_eq!(roomy.list_rows(SnapshotId(6), DIARY).unwrap().len(), 3 + 1_048_576);
     let sales = roomy.create_schema(170, "sales").unwrap().object;
     assert_eq!(roomy.list_schemas(SnapshotId(8)).unwrap(), [MAIN, sales]);
-    assert_eq!(number(roomy.drop_schema(180, MAIN)), SCHEMA_NOT_EMPTY);
+    assert_eq!(roomy.drop_schema(180, MAIN).err(), Some(Refusal::SchemaNotEmpty));
     roomy.drop_schema(180, sales).unwrap();
     assert_eq!(roomy.list_schemas(SnapshotId(9)).unwrap(), [MAIN]);
 }
@@ -312,16 +299,16 @@ fn lent_tables_and_tables_that_were_kept() {
     assert_eq!(catalog.first_unsound(), None);
     // whatever the tables and the counts are
     kept.snapshots[0] = 77;
-    assert_eq!(number(Catalog::resume(kept.lend(), counts).list_schemas(SnapshotId(5))), NOT_SOUND);
-    assert_eq!(first_line(&kept, counts), SNAPSHOTS_LINE);
+    assert_eq!(Catalog::resume(kept.lend(), counts).list_schemas(SnapshotId(5)).err(), Some(Refusal::NotSound));
+    assert_eq!(first_line(&kept, counts), Some(Line::Snapshots));
     let most = Counts { scheduled: usize::MAX, ..counts };
-    assert_eq!(number(Catalog::resume(kept.lend(), most).cleanup(u64::MAX)), NOT_SOUND);
-    assert_eq!(first_line(&kept, most), FIELDS_LINE);
+    assert_eq!(Catalog::resume(kept.lend(), most).cleanup(u64::MAX).err(), Some(Refusal::NotSound));
+    assert_eq!(first_line(&kept, most), Some(Line::Fields));
     let said = Catalog::resume(kept.lend(), counts).first_unsound().map(|line| line.to_string()).unwrap_or_default();
     assert!(said.starts_with("line 2 of 'Sound tables' fails first: \"at least one snapshot; "), "{said}");
     kept.snapshots[0] = 0;
-    assert_eq!(first_line(&kept, Counts { positions: 2, ..counts }), DELETES_LINE);
-    assert_eq!(number(Catalog::fresh(OwnedTables::default(), 100).map(|_| ())), NO_ROOM);
+    assert_eq!(first_line(&kept, Counts { positions: 2, ..counts }), Some(Line::Deletes));
+    assert_eq!(Catalog::fresh(OwnedTables::default(), 100).map(|_| ()).err(), Some(Refusal::NoRoom));
 }
 
 /// Rows by the thousand are one answer; more than there may be are refused, and nothing is taken for them.
@@ -350,7 +337,7 @@ fn many_rows() {
     let rows = lake.list_rows(SnapshotId(2), DIARY).expect("the first file's");
     assert_eq!((rows.len(), rows[0].0, rows[65_280].0), (65_281, 0, 65_280));
     let latest = SnapshotId(FILES as u64 + 1);
-    assert_eq!(lake.list_rows(latest, DIARY).expect_err("too many").number, SHORT_ANSWER_AREA);
-    assert_eq!(lake.list_rows(latest, CatalogId(7)).expect_err("no such table").number, NOT_LIVE);
+    assert_eq!(lake.list_rows(latest, DIARY).expect_err("too many"), Refusal::ShortAnswerArea);
+    assert_eq!(lake.list_rows(latest, CatalogId(7)).expect_err("no such table"), Refusal::NotLive);
     assert_eq!(lake.list_files(latest, DIARY).expect("files").len(), FILES);
 }

@@ -130,7 +130,7 @@ fn broken_rules_of_statistics() {
         given.sort_by_key(|one| one.column);
         let answer = Catalog::resume(tables.clone(), counts).insert(120, table, rows, Uuid { high: 1, low: round }, &given);
         let broken = broken_rule(&columns, rows, &given);
-        assert_eq!(answer.as_ref().err().map(|refusal| refusal.number), broken.as_ref().map(|_| 15), "{rows} rows, {given:?}: {broken:?}");
+        assert_eq!(answer.as_ref().err().map(|refusal| refusal.number()), broken.as_ref().map(|_| 15), "{rows} rows, {given:?}: {broken:?}");
         match answer {
             Ok(_) => accepted += 1,
             Err(_) => refused += 1,
