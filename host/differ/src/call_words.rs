@@ -64,7 +64,7 @@ fn push_reading(list: &mut CallList, reading: &Reading) {
         }
         Reading::Rows { snapshot, table } => list.push_list_rows(SnapshotId(*snapshot), CatalogId(*table)),
         Reading::ByTime { t } => list.push_snapshot_by_time(*t),
-        Reading::FindFile { id } => list.push_copy_file(FileId(*id)),
+        Reading::FindFile { id } => list.push_find_file(FileId(*id)),
     }
 }
 

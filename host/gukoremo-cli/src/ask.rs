@@ -2,11 +2,10 @@
 
 use crate::failure::{code, Failure};
 use crate::file::Lake;
-use crate::records;
 use crate::refused::{refuse, Asked};
 use crate::source::{Reading, Source, MOST_WORDS};
 use crate::values::names::{Reference, TableReference};
-use gukoremo::{CatalogId, FileId, Listed, Refusal, RowId, SnapshotId};
+use gukoremo::{CatalogId, File, FileId, Listed, Refusal, RowId, SnapshotId};
 use std::cell::Cell;
 use std::time::{Duration, Instant};
 
@@ -83,10 +82,9 @@ pub fn rows(from: &dyn Source, at: SnapshotId, table: CatalogId) -> Result<Vec<R
     }
 }
 
-/// The eight words of a file's record.
-pub fn lookup(from: &dyn Source, file: FileId) -> Result<Vec<u64>, Failure> {
-    let words = from.answer(&Reading::Lookup(file));
-    words.map_err(|refusal| refuse(refusal, from.lake(), &Asked { thing: Some(format!("file {}", file.0)), ..Asked::default() }))
+pub fn lookup(lake: &Lake, file: FileId) -> Result<File, Failure> {
+    let found = timed(|| lake.find_file(file));
+    found.map_err(|refusal| refuse(refusal, lake, &Asked { thing: Some(format!("file {file}")), ..Asked::default() }))
 }
 
 // Names
@@ -102,8 +100,8 @@ pub fn schema_id(from: &dyn Source, at: SnapshotId, reference: &Reference) -> Re
         Reference::Name(name) => name,
     };
     let listed = schemas(from, at)?;
-    let found = records::schemas(from.lake()).find(|(schema, known)| known == name && listed.contains(&schema.id));
-    found.map(|(schema, _)| schema.id).ok_or_else(|| missing(from.lake(), at, format!("schema {name}")))
+    let found = from.lake().records().schemas().find(|schema| schema.name == *name && listed.contains(&schema.id));
+    found.map(|schema| schema.id).ok_or_else(|| missing(from.lake(), at, format!("schema {name}")))
 }
 
 pub fn table_id(from: &dyn Source, at: SnapshotId, reference: &TableReference) -> Result<CatalogId, Failure> {
@@ -123,7 +121,7 @@ pub fn column_id(from: &dyn Source, at: SnapshotId, table: CatalogId, reference:
         Reference::Name(name) => name,
     };
     let listed = columns(from, at, table)?;
-    let found = records::columns(from.lake())
-        .find(|(column, known)| column.table == table && known == name && listed.contains(&column.id) && records::live(column.begin, column.end, at));
-    found.map(|(column, _)| column.id).ok_or_else(|| missing(from.lake(), at, format!("column {name} of table {}", table.0)))
+    let mut columns = from.lake().records().columns_of(table);
+    let found = columns.find(|column| column.name == *name && listed.contains(&column.id) && column.life.is_live_at(at));
+    found.map(|column| column.id).ok_or_else(|| missing(from.lake(), at, format!("column {name} of table {}", table.0)))
 }

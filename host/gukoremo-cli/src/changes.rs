@@ -5,17 +5,15 @@ use crate::failure::{code, Failure};
 use crate::file::{Lake, Writing};
 use crate::list::{Cell, Form, List, Said};
 use crate::readings::form;
-use crate::records;
 use crate::refused::{ranges, refuse, Asked};
 use crate::runs;
 use crate::storage;
-use crate::values::columns::Column;
+use crate::values::columns;
 use crate::values::names::{Reference, TableReference};
 use crate::values::statistics::{self, Statistics};
 use crate::values::{times, uuids};
 use clap::ArgMatches;
-use gukoremo::record::ColumnRecord;
-use gukoremo::{Catalog, CatalogId, FileId, NewColumn, NewStatistics, OwnedTables, Refusal, SnapshotId, SnapshotRecord, Uuid};
+use gukoremo::{Catalog, CatalogId, Column, FileId, NewColumn, NewStatistics, OwnedTables, Refusal, Snapshot, SnapshotId, Uuid};
 use std::io::Write;
 use std::path::PathBuf;
 use std::time::Duration;
@@ -91,7 +89,7 @@ fn init(given: &ArgMatches) -> Result<u8, Failure> {
 
 /// What a commit did, to be said once it is on the disk.
 struct Done {
-    snapshot: SnapshotRecord,
+    snapshot: Snapshot,
     what: String,
     fields: Vec<(&'static str, Cell)>,
 }
@@ -120,9 +118,8 @@ fn create_schema(lake: &mut Lake, given: &ArgMatches) -> Result<Done, Failure> {
     let (name, time): (&String, u64) = (value(given, "name"), time(given)?);
     let made = timed(|| lake.create_schema(time, name));
     let asked = Asked { time: Some(time), name, thing: Some(format!("schema {name}")), ..Asked::default() };
-    let snapshot = made.map_err(|refusal| refuse(refusal, lake, &asked))?;
-    let id = snapshot.object.0;
-    Ok(Done { snapshot, what: format!("schema {name}, id {id}"), fields: vec![("schema", Cell::Number(id))] })
+    let made = made.map_err(|refusal| refuse(refusal, lake, &asked))?;
+    Ok(Done { snapshot: made.snapshot, what: format!("schema {name}, id {}", made.schema), fields: vec![("schema", Cell::Number(made.schema.0))] })
 }
 
 fn drop_schema(lake: &mut Lake, given: &ArgMatches) -> Result<Done, Failure> {
@@ -137,7 +134,7 @@ fn drop_schema(lake: &mut Lake, given: &ArgMatches) -> Result<Done, Failure> {
 
 fn create_table(lake: &mut Lake, given: &ArgMatches) -> Result<Done, Failure> {
     let (reference, name): &(Reference, String) = value(given, "name");
-    let columns: Vec<Column> = given.get_many::<Column>("columns").unwrap_or_default().cloned().collect();
+    let columns: Vec<columns::Column> = given.get_many::<columns::Column>("columns").unwrap_or_default().cloned().collect();
     let time = time(given)?;
     let at = latest(lake)?;
     let schema = ask::schema_id(lake, at, reference)?;
@@ -146,14 +143,17 @@ fn create_table(lake: &mut Lake, given: &ArgMatches) -> Result<Done, Failure> {
     let made = timed(|| lake.create_table(time, schema, name, &new));
     let column_names = columns.iter().map(|column| column.name.as_str()).collect();
     let asked = |thing: String| Asked { time: Some(time), name, column_names, ..Asked::of(at, thing) };
-    let snapshot = made.map_err(|refusal| {
+    let made = made.map_err(|refusal| {
         // 6 is about the schema, 10 about the table
         let about_schema = refusal == Refusal::NotLive;
         let thing = if about_schema { format!("schema {reference}") } else { format!("table {reference}.{name}") };
         refuse(refusal, lake, &asked(thing))
     })?;
-    let id = snapshot.object.0;
-    Ok(Done { snapshot, what: format!("table {reference}.{name}, id {id}"), fields: vec![("table", Cell::Number(id))] })
+    Ok(Done {
+        snapshot: made.snapshot,
+        what: format!("table {reference}.{name}, id {}", made.table),
+        fields: vec![("table", Cell::Number(made.table.0))],
+    })
 }
 
 fn drop_table(lake: &mut Lake, given: &ArgMatches) -> Result<Done, Failure> {
@@ -184,14 +184,13 @@ fn insert(lake: &mut Lake, given: &ArgMatches) -> Result<Done, Failure> {
     let table = ask::table_id(lake, at, reference)?;
     let new = new_statistics(lake, at, table, &statistics)?;
     let made = timed(|| lake.insert(time, table, rows, uuid, &new));
-    let snapshot = made.map_err(|refusal| {
-        let (columns, statistics) = (columns(lake, at, table), &new[..]);
+    let made = made.map_err(|refusal| {
+        let (columns, statistics) = (live_columns(lake, at, table), &new[..]);
         let asked = Asked { time: Some(time), rows, uuid: Some(uuid), columns, statistics, ..Asked::of(at, format!("table {reference}")) };
         refuse(refusal, lake, &asked)
     })?;
-    let file = snapshot.next_file_id.0.saturating_sub(1);
-    let what = format!("file {file} of {rows} rows in {reference}, {}", uuid.path());
-    Ok(Done { snapshot, what, fields: file_fields(table, file, uuid) })
+    let what = format!("file {} of {rows} rows in {reference}, {}", made.data_file, uuid.path());
+    Ok(Done { snapshot: made.snapshot, what, fields: file_fields(table, made.data_file, uuid) })
 }
 
 /// By ascending column id, as the call asks for; the words of the command may stand in any order.
@@ -205,35 +204,33 @@ fn new_statistics(lake: &Lake, at: SnapshotId, table: CatalogId, all: &[Statisti
     Ok(new)
 }
 
-/// The columns of a table, with their names.
-fn columns(lake: &Lake, at: SnapshotId, table: CatalogId) -> Vec<(ColumnRecord, String)> {
-    records::columns(lake).filter(|(column, _)| column.table == table && records::live(column.begin, column.end, at)).collect()
+fn live_columns(lake: &Lake, at: SnapshotId, table: CatalogId) -> Vec<Column> {
+    lake.records().columns_of(table).filter(|column| column.life.is_live_at(at)).collect()
 }
 
 fn delete(lake: &mut Lake, given: &ArgMatches) -> Result<Done, Failure> {
     let (file, positions, time): (FileId, &Vec<u64>, u64) = (FileId(*value(given, "id")), value(given, "positions"), time(given)?);
     let uuid = uuid(given)?;
     let made = timed(|| lake.delete(time, file, uuid, positions));
-    let snapshot = made.map_err(|refusal| {
-        let at = records::latest(lake).map_or(SnapshotId(0), |snapshot| snapshot.id);
+    let made = made.map_err(|refusal| {
+        let at = lake.records().latest().map_or(SnapshotId(0), |snapshot| snapshot.id);
         let asked = Asked { time: Some(time), uuid: Some(uuid), file: Some(file), list: positions, ..Asked::of(at, format!("data file {}", file.0)) };
         refuse(refusal, lake, &asked)
     })?;
-    let new = snapshot.next_file_id.0.saturating_sub(1);
-    let what = format!("delete file {new} of file {}, {} more deleted, {}", file.0, positions.len(), uuid.path());
-    Ok(Done { snapshot, what, fields: file_fields(snapshot.object, new, uuid) })
+    let what = format!("delete file {} of file {file}, {} more deleted, {}", made.delete_file, positions.len(), uuid.path());
+    Ok(Done { snapshot: made.snapshot, what, fields: file_fields(made.snapshot.change.object(), made.delete_file, uuid) })
 }
 
-fn file_fields(table: CatalogId, file: u64, uuid: Uuid) -> Vec<(&'static str, Cell)> {
-    vec![("table", Cell::Number(table.0)), ("file", Cell::Number(file)), ("uuid", Cell::Text(uuids::show(uuid))), ("path", Cell::Text(uuid.path()))]
+fn file_fields(table: CatalogId, file: FileId, uuid: Uuid) -> Vec<(&'static str, Cell)> {
+    vec![("table", Cell::Number(table.0)), ("file", Cell::Number(file.0)), ("uuid", Cell::Text(uuid.to_string())), ("path", Cell::Text(uuid.path()))]
 }
 
 fn expire(writing: &Writing, mut lake: Lake, given: &ArgMatches) -> Result<u8, Failure> {
     let (ids, time): (&Vec<u64>, u64) = (value(given, "snapshots"), time(given)?);
-    let (before, paths) = (records::scheduled(&lake).count(), storage::paths(&lake));
+    let (before, paths) = (lake.records().scheduled().count(), storage::paths(&lake));
     let snapshots: Vec<SnapshotId> = ids.iter().map(|id| SnapshotId(*id)).collect();
     timed(|| lake.expire(&snapshots, time)).map_err(|refusal| refuse(refusal, &lake, &Asked { list: ids, ..Asked::default() }))?;
-    let scheduled: Vec<u64> = records::scheduled(&lake).skip(before).map(|file| file.file.0).collect();
+    let scheduled: Vec<u64> = lake.records().scheduled().skip(before).map(|file| file.file.0).collect();
     writing.replace(lake)?;
     let files = if scheduled.is_empty() { "no file is scheduled".to_string() } else { format!("files scheduled: {}", ranges(&scheduled)) };
     let sentence = format!("expired {}; {files}", ranges(ids));
@@ -261,7 +258,7 @@ fn cleanup(writing: &Writing, mut lake: Lake, given: &ArgMatches) -> Result<u8, 
 fn show_room(lake: &Lake, form: Form) -> Result<u8, Failure> {
     // refused where the tables are not sound
     latest(lake)?;
-    let (used, places) = (runs::words_of(lake.counts()), runs::places(lake.view()));
+    let (used, places) = (runs::words_of(lake.counts()), runs::words_of(lake.view().room()));
     let mut list = List::new(&["table", "used", "places"]);
     let row = |at: usize| vec![Cell::Text(runs::TABLES[at].to_string()), Cell::Number(used[at] as u64), Cell::Number(places[at] as u64)];
     list.rows = (0..runs::TABLES.len()).map(row).collect();
@@ -279,14 +276,7 @@ fn make_room(writing: &Writing, lake: Lake, given: &ArgMatches) -> Result<u8, Fa
             .advice("give a higher --records, or expire snapshots first."));
     }
     let (mut tables, counts) = lake.into_parts();
-    let lengths = OwnedTables::with_room(runs::room(places));
-    for (run, length) in runs::all(&mut tables).into_iter().zip(runs::views(&lengths)) {
-        match (run, length) {
-            (runs::Run::Words(words), runs::RunView::Words(length)) => words.resize(length.len(), 0),
-            (runs::Run::Bytes(bytes), runs::RunView::Bytes(length)) => bytes.resize(length.len(), 0),
-            _ => {}
-        }
-    }
+    tables.resize(runs::room(places));
     writing.replace(Catalog::resume(tables, counts))?;
     let shown = crate::file::read(path(given)).and_then(|lake| show_room(&lake, form(given)));
     shown.map_err(|failure| failure.after_change(&format!("there are places for {places} records of each kind.")))

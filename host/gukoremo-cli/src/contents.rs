@@ -4,15 +4,11 @@
 use crate::ask;
 use crate::failure::Failure;
 use crate::file::Lake;
-use crate::records;
 use crate::refused::ranges;
 use crate::source::{in_one_list, Source, LIST_WORDS};
 use crate::storage;
-use crate::values::columns::type_name;
-use gukoremo::number::ABSENT;
-use gukoremo::record::{ColumnRecord, SchemaRecord, StatisticsRecord, TableRecord};
 use gukoremo::session::CallRecord;
-use gukoremo::{DataFileRecord, DeleteFileRecord, SnapshotId, SnapshotRecord, Uuid};
+use gukoremo::{Column, DataFile, DeleteFile, Life, Schema, Snapshot, SnapshotId, Statistics, Table, Uuid};
 use std::rc::Rc;
 
 /// One thing, with what is said of it.
@@ -43,7 +39,7 @@ impl Node {
 /// The retained snapshots. Refused where the tables are not sound.
 pub fn snapshots(lake: &Lake) -> Result<Vec<Node>, Failure> {
     ask::by_time(lake, u64::MAX)?;
-    let node = |one: SnapshotRecord| Node {
+    let node = |one: Snapshot| Node {
         kind: "snapshot",
         snapshot: Some(one.id.0),
         place: String::new(),
@@ -51,7 +47,7 @@ pub fn snapshots(lake: &Lake) -> Result<Vec<Node>, Failure> {
         id: one.id.0,
         fields: vec![
             ("time", one.time.to_string()),
-            ("change", format!("{} {}", records::kind_name(one.kind), one.object.0)),
+            ("change", one.change.to_string()),
             ("schema_version", one.schema_version.to_string()),
             ("next_catalog_id", one.next_catalog_id.0.to_string()),
             ("next_file_id", one.next_file_id.0.to_string()),
@@ -59,7 +55,7 @@ pub fn snapshots(lake: &Lake) -> Result<Vec<Node>, Failure> {
         numbers: None,
         parts: Vec::new(),
     };
-    Ok(records::snapshots(lake).map(node).collect())
+    Ok(lake.records().snapshots().map(node).collect())
 }
 
 /// What a snapshot shows.
@@ -79,7 +75,7 @@ pub fn rows(lake: &mut Lake, snapshots: &[SnapshotId]) -> Vec<Result<Vec<Node>, 
 pub fn together(lake: &Lake, snapshots: &[SnapshotId]) -> usize {
     let tables = (lake.counts().schemas.min(lake.view().schemas.len()) + lake.counts().tables.min(lake.view().tables.len())) as u64;
     let words = |at: &SnapshotId| {
-        let live = records::data_files(lake).filter(|file| records::live(file.begin, file.end, *at));
+        let live = lake.records().data_files().filter(|file| file.life.is_live_at(*at));
         live.fold(tables * CallRecord::SIZE as u64, |sum, file| sum.saturating_add(file.record_count))
     };
     let sums = snapshots.iter().map(words).scan(0, |sum: &mut u64, words| {
@@ -93,7 +89,7 @@ pub fn together(lake: &Lake, snapshots: &[SnapshotId]) -> usize {
 pub fn on_record(lake: &Lake) -> Result<Vec<Node>, Failure> {
     let reader = Reader::new(lake, None);
     let mut all = reader.schemas()?;
-    all.extend(records::scheduled(lake).map(|one| {
+    all.extend(lake.records().scheduled().map(|one| {
         let node = reader.node("scheduled file", one.uuid.path(), one.uuid.path(), one.file.0);
         let fields = vec![("path_in_table", one.uuid.path()), ("id", one.file.0.to_string()), ("schedule_start", one.schedule_start.to_string())];
         Node { fields, ..node }
@@ -101,13 +97,9 @@ pub fn on_record(lake: &Lake) -> Result<Vec<Node>, Failure> {
     Ok(all)
 }
 
-/// A word, or none where there is no such.
-fn optional(is_there: bool, word: impl ToString) -> String {
-    if is_there {
-        word.to_string()
-    } else {
-        "none".to_string()
-    }
+/// A value, or none where there is no such.
+fn optional(value: Option<impl ToString>) -> String {
+    value.map_or("none".to_string(), |value| value.to_string())
 }
 
 #[derive(Clone)]
@@ -116,14 +108,14 @@ struct Reader<'a> {
     lake: &'a Lake,
     /// None is everything on record.
     at: Option<SnapshotId>,
-    tables: Rc<[(TableRecord, String)]>,
-    columns: Rc<[(ColumnRecord, String)]>,
+    tables: Rc<[Table]>,
+    columns: Rc<[Column]>,
 }
 
 impl Reader<'_> {
     fn new(from: &dyn Source, at: Option<SnapshotId>) -> Reader<'_> {
         let lake = from.lake();
-        Reader { from, lake, at, tables: records::tables(lake).collect(), columns: records::columns(lake).collect() }
+        Reader { from, lake, at, tables: lake.records().tables().collect(), columns: lake.records().columns().collect() }
     }
 
     fn node(&self, kind: &'static str, place: String, name: String, id: u64) -> Node {
@@ -131,17 +123,11 @@ impl Reader<'_> {
     }
 
     /// A record's first and last words: what it is called, its id, and on record its life. A later snapshot may still end what an earlier one shows.
-    fn fields(
-        &self,
-        name: (&'static str, &str),
-        id: u64,
-        own: &[(&'static str, String)],
-        life: (SnapshotId, SnapshotId),
-    ) -> Vec<(&'static str, String)> {
+    fn fields(&self, name: (&'static str, &str), id: u64, own: &[(&'static str, String)], life: Life) -> Vec<(&'static str, String)> {
         let mut fields = vec![(name.0, name.1.to_string()), ("id", id.to_string())];
         fields.extend_from_slice(own);
         if self.at.is_none() {
-            fields.extend([("begin", life.0 .0.to_string()), ("end", optional(life.1 .0 != ABSENT, life.1 .0))]);
+            fields.extend([("begin", life.begin.to_string()), ("end", optional(life.end))]);
         }
         fields
     }
@@ -149,108 +135,100 @@ impl Reader<'_> {
     fn schemas(&self) -> Result<Vec<Node>, Failure> {
         let listed = self.at.map(|at| ask::schemas(self.from, at)).transpose()?;
         let mut nodes = Vec::new();
-        for (one, name) in records::schemas(self.lake).filter(|(one, _)| listed.as_ref().is_none_or(|ids| ids.contains(&one.id))) {
-            let fields = self.fields(("name", &name), one.id.0, &[], (one.begin, one.end));
-            let parts = self.tables(&one, &name)?;
-            nodes.push(Node { fields, parts, ..self.node("schema", name.clone(), name, one.id.0) });
+        for one in self.lake.records().schemas().filter(|one| listed.as_ref().is_none_or(|ids| ids.contains(&one.id))) {
+            let fields = self.fields(("name", &one.name), one.id.0, &[], one.life);
+            let parts = self.tables(&one)?;
+            nodes.push(Node { fields, parts, ..self.node("schema", one.name.clone(), one.name, one.id.0) });
         }
         Ok(nodes)
     }
 
-    fn listed_tables(&self, schema: &SchemaRecord) -> Result<Vec<&(TableRecord, String)>, Failure> {
+    fn listed_tables(&self, schema: &Schema) -> Result<Vec<&Table>, Failure> {
         let listed = self.at.map(|at| ask::tables(self.from, at, schema.id)).transpose()?;
-        let of_schema = self.tables.iter().filter(|(one, _)| one.schema == schema.id);
-        Ok(of_schema.filter(|(one, _)| listed.as_ref().is_none_or(|ids| ids.contains(&one.id))).collect())
+        let of_schema = self.tables.iter().filter(|one| one.schema == schema.id);
+        Ok(of_schema.filter(|one| listed.as_ref().is_none_or(|ids| ids.contains(&one.id))).collect())
     }
 
-    fn rows(&self, table: &TableRecord) -> Result<Option<(&'static str, Vec<u64>)>, Failure> {
+    fn rows(&self, table: &Table) -> Result<Option<(&'static str, Vec<u64>)>, Failure> {
         let listed = self.at.map(|at| ask::rows(self.from, at, table.id)).transpose()?;
         Ok(listed.map(|rows| ("rows", rows.into_iter().map(|row| row.0).collect())))
     }
 
     fn table_rows(&self, at: SnapshotId) -> Result<Vec<Node>, Failure> {
         let mut all = Vec::new();
-        for (schema, schema_name) in records::schemas(self.lake).filter(|(schema, _)| records::live(schema.begin, schema.end, at)) {
-            for (table, name) in self.listed_tables(&schema)? {
-                let node = self.node("table", format!("{schema_name}.{name}"), name.clone(), table.id.0);
+        for schema in self.lake.records().schemas().filter(|schema| schema.life.is_live_at(at)) {
+            for table in self.listed_tables(&schema)? {
+                let node = self.node("table", format!("{}.{}", schema.name, table.name), table.name.clone(), table.id.0);
                 all.push(Node { numbers: self.rows(table)?, ..node });
             }
         }
         Ok(all)
     }
 
-    fn tables(&self, schema: &SchemaRecord, schema_name: &str) -> Result<Vec<Node>, Failure> {
+    fn tables(&self, schema: &Schema) -> Result<Vec<Node>, Failure> {
         let mut nodes = Vec::new();
-        for (one, name) in self.listed_tables(schema)? {
+        for one in self.listed_tables(schema)? {
             // inserts after a snapshot move it
             let next_row_id = [("next_row_id", one.next_row_id.0.to_string())];
             let own = if self.at.is_none() { &next_row_id[..] } else { &[] };
-            let fields = self.fields(("name", name), one.id.0, own, (one.begin, one.end));
-            let place = format!("{schema_name}.{name}");
+            let fields = self.fields(("name", &one.name), one.id.0, own, one.life);
+            let place = format!("{}.{}", schema.name, one.name);
             let mut parts = self.columns(one, &place)?;
-            parts.extend(self.data_files(one, &storage::folder(schema_name, name))?);
-            nodes.push(Node { fields, numbers: self.rows(one)?, parts, ..self.node("table", place, name.clone(), one.id.0) });
+            parts.extend(self.data_files(one, &storage::folder(&schema.name, &one.name))?);
+            nodes.push(Node { fields, numbers: self.rows(one)?, parts, ..self.node("table", place, one.name.clone(), one.id.0) });
         }
         Ok(nodes)
     }
 
-    fn columns(&self, table: &TableRecord, table_place: &str) -> Result<Vec<Node>, Failure> {
+    fn columns(&self, table: &Table, table_place: &str) -> Result<Vec<Node>, Failure> {
         let listed = self.at.map(|at| ask::columns(self.from, at, table.id)).transpose()?;
-        let of_table = self.columns.iter().filter(|(one, _)| one.table == table.id);
-        let node = |(one, name): &(ColumnRecord, String)| {
-            let own = [
-                ("order", one.order.to_string()),
-                ("type", type_name(one.type_code).to_string()),
-                ("nulls_allowed", (one.nulls_allowed == 1).to_string()),
-            ];
-            let fields = self.fields(("name", name), one.id, &own, (one.begin, one.end));
-            Node { fields, ..self.node("column", format!("{table_place}.{name}"), name.clone(), one.id) }
+        let of_table = self.columns.iter().filter(|one| one.table == table.id);
+        let node = |one: &Column| {
+            let own = [("order", one.order.to_string()), ("type", one.column_type.to_string()), ("nulls_allowed", one.nulls_allowed.to_string())];
+            let fields = self.fields(("name", &one.name), one.id, &own, one.life);
+            Node { fields, ..self.node("column", format!("{table_place}.{}", one.name), one.name.clone(), one.id) }
         };
-        Ok(of_table.filter(|(one, _)| listed.as_ref().is_none_or(|ids| ids.contains(&one.id))).map(node).collect())
+        Ok(of_table.filter(|one| listed.as_ref().is_none_or(|ids| ids.contains(&one.id))).map(node).collect())
     }
 
-    fn data_files(&self, table: &TableRecord, folder: &str) -> Result<Vec<Node>, Failure> {
+    fn data_files(&self, table: &Table, folder: &str) -> Result<Vec<Node>, Failure> {
         let listed = self.at.map(|at| ask::files(self.from, at, table.id, None)).transpose()?;
-        let is_listed = |one: &DataFileRecord| listed.as_ref().is_none_or(|pairs| pairs.iter().any(|pair| pair.data_file == one.id));
-        let deletes_of = |one: &DataFileRecord, deletes: &DeleteFileRecord| {
+        let is_listed = |one: &DataFile| listed.as_ref().is_none_or(|pairs| pairs.iter().any(|pair| pair.data_file == one.id));
+        let deletes_of = |one: &DataFile, deletes: &DeleteFile| {
             deletes.data_file == one.id && listed.as_ref().is_none_or(|pairs| pairs.iter().any(|pair| pair.delete_file == Some(deletes.id)))
         };
-        let node = |one: DataFileRecord| {
+        let node = |one: DataFile| {
             let mut parts = self.statistics(&one, folder);
-            let deletes = records::positions(self.lake).filter(|(deletes, _)| deletes_of(&one, deletes));
+            let deletes = self.lake.records().deletes().filter(|(deletes, _)| deletes_of(&one, deletes));
             parts.extend(deletes.map(|(deletes, positions)| self.delete_file(&deletes, positions, folder)));
             let own = [("record_count", one.record_count.to_string()), ("row_id_start", one.row_id_start.0.to_string())];
-            let fields = self.fields(("path", &one.uuid.path()), one.id.0, &own, (one.begin, one.end));
+            let fields = self.fields(("path", &one.uuid.path()), one.id.0, &own, one.life);
             Node { fields, parts, ..self.file("data file", one.uuid, folder, one.id.0) }
         };
-        Ok(records::data_files(self.lake).filter(|one| one.table == table.id && is_listed(one)).map(node).collect())
+        Ok(self.lake.records().data_files().filter(|one| one.table == table.id && is_listed(one)).map(node).collect())
     }
 
     fn file(&self, kind: &'static str, uuid: Uuid, folder: &str, id: u64) -> Node {
         self.node(kind, format!("{folder}{}", uuid.path()), uuid.path(), id)
     }
 
-    fn delete_file(&self, one: &DeleteFileRecord, positions: &[u64], folder: &str) -> Node {
+    fn delete_file(&self, one: &DeleteFile, positions: &[u64], folder: &str) -> Node {
         let own = [("delete_count", one.delete_count.to_string())];
-        let fields = self.fields(("path", &one.uuid.path()), one.id.0, &own, (one.begin, one.end));
+        let fields = self.fields(("path", &one.uuid.path()), one.id.0, &own, one.life);
         Node { fields, numbers: Some(("positions", positions.to_vec())), ..self.file("delete file", one.uuid, folder, one.id.0) }
     }
 
     /// A record for each column; a column's life is its table's.
-    fn statistics(&self, file: &DataFileRecord, folder: &str) -> Vec<Node> {
+    fn statistics(&self, file: &DataFile, folder: &str) -> Vec<Node> {
         let column_name = |id: u64| {
-            let found = self.columns.iter().find(|(column, _)| column.table == file.table && column.id == id);
-            found.map_or(id.to_string(), |(_, name)| name.clone())
+            let found = self.columns.iter().find(|column| column.table == file.table && column.id == id);
+            found.map_or(id.to_string(), |column| column.name.clone())
         };
-        let node = |one: StatisticsRecord| {
+        let node = |one: Statistics| {
             let name = column_name(one.column);
-            let fields = vec![
-                ("null_count", one.null_count.to_string()),
-                ("min", optional(one.has_min == 1, one.min as i64)),
-                ("max", optional(one.has_max == 1, one.max as i64)),
-            ];
+            let fields = vec![("null_count", one.null_count.to_string()), ("min", optional(one.min)), ("max", optional(one.max))];
             Node { fields, ..self.node("statistics", format!("{folder}{}, column {name}", file.uuid.path()), name, one.column) }
         };
-        records::statistics(self.lake).filter(|one| one.data_file == file.id).map(node).collect()
+        self.lake.records().statistics_of(file.id).map(node).collect()
     }
 }

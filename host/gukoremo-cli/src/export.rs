@@ -5,14 +5,10 @@ use crate::ask;
 use crate::failure::{code, Failure};
 use crate::file::{self, Lake};
 use crate::list::output;
-use crate::records;
 use crate::storage::{self, Storage};
-use crate::values::columns::type_name;
 use crate::values::times;
 use clap::ArgMatches;
-use gukoremo::number::ABSENT;
-use gukoremo::record::{self, StatisticsRecord};
-use gukoremo::{CatalogId, FileId, SnapshotRecord};
+use gukoremo::{CatalogId, Change, FileId, Snapshot, SnapshotId, Statistics};
 use rusqlite::{params, Connection, Transaction};
 use std::collections::BTreeMap;
 use std::fs;
@@ -68,7 +64,7 @@ fn scheduled_paths(lake: &Lake, storage: Option<&Storage>) -> Result<Vec<String>
             .why("it is scheduled, and a scheduled record does not name its table.")
             .advice("give --storage with a list of what is in the storage, or hand the scheduled files out first with 'gukoremo cleanup'.")),
     };
-    records::scheduled(lake).map(|one| path(one.uuid.path())).collect()
+    lake.records().scheduled().map(|one| path(one.uuid.path())).collect()
 }
 
 /// Written beside and renamed, so that a file of that name is whole.
@@ -104,8 +100,8 @@ fn id(word: u64) -> i64 {
 }
 
 /// An end that is not set is NULL.
-fn end(word: u64) -> Option<i64> {
-    (word != ABSENT).then_some(word as i64)
+fn end(end: Option<SnapshotId>) -> Option<i64> {
+    end.map(|end| id(end.0))
 }
 
 fn timestamp(time: u64) -> String {
@@ -131,7 +127,7 @@ fn snapshots(lake: &Lake, into: &Transaction<'_>) -> rusqlite::Result<()> {
     let mut versions = into.prepare("INSERT INTO ducklake_schema_versions VALUES (?, ?)")?;
     let names = Names::of(lake);
     let mut version = None;
-    for one in records::snapshots(lake) {
+    for one in lake.records().snapshots() {
         let number = id(one.schema_version);
         insert.execute(params![id(one.id.0), timestamp(one.time), number, id(one.next_catalog_id.0), id(one.next_file_id.0)])?;
         changes.execute(params![id(one.id.0), names.change(&one)])?;
@@ -152,8 +148,8 @@ struct Names {
 impl Names {
     fn of(lake: &Lake) -> Names {
         Names {
-            schemas: records::schemas(lake).map(|(schema, name)| (schema.id.0, name)).collect(),
-            tables: records::tables(lake).map(|(table, name)| (table.id.0, (table.schema, name))).collect(),
+            schemas: lake.records().schemas().map(|schema| (schema.id.0, schema.name)).collect(),
+            tables: lake.records().tables().map(|table| (table.id.0, (table.schema, table.name))).collect(),
         }
     }
 
@@ -162,12 +158,11 @@ impl Names {
     }
 
     /// "Names are written in quoted-format"; a name has no quotes in it.
-    fn change(&self, snapshot: &SnapshotRecord) -> String {
-        let object = snapshot.object.0;
-        let kind = records::kind_name(snapshot.kind);
-        match snapshot.kind {
-            record::CREATED_SCHEMA => format!("{kind}:\"{}\"", self.schema(object)),
-            record::CREATED_TABLE => match self.tables.get(&object) {
+    fn change(&self, snapshot: &Snapshot) -> String {
+        let (kind, object) = (snapshot.change.name(), snapshot.change.object().0);
+        match snapshot.change {
+            Change::CreatedSchema(_) => format!("{kind}:\"{}\"", self.schema(object)),
+            Change::CreatedTable(_) => match self.tables.get(&object) {
                 Some((schema, name)) => format!("{kind}:\"{}\".\"{name}\"", self.schema(schema.0)),
                 None => format!("{kind}:\"{object}\""),
             },
@@ -179,25 +174,26 @@ impl Names {
 /// "By default, this path is the name of the schema", relative to the data path.
 fn schemas(lake: &Lake, into: &Transaction<'_>) -> rusqlite::Result<()> {
     let mut insert = into.prepare("INSERT INTO ducklake_schema VALUES (?, ?, ?, ?, ?, ?, ?)")?;
-    for (one, name) in records::schemas(lake) {
-        insert.execute(params![id(one.id.0), uuid(1, one.id.0), id(one.begin.0), end(one.end.0), name, format!("{name}/"), true])?;
+    for one in lake.records().schemas() {
+        let path = format!("{}/", one.name);
+        insert.execute(params![id(one.id.0), uuid(1, one.id.0), id(one.life.begin.0), end(one.life.end), one.name, path, true])?;
     }
     Ok(())
 }
 
 fn tables(lake: &Lake, into: &Transaction<'_>) -> rusqlite::Result<()> {
     let mut insert = into.prepare("INSERT INTO ducklake_table VALUES (?, ?, ?, ?, ?, ?, ?, ?)")?;
-    for (one, name) in records::tables(lake) {
-        let path = format!("{name}/");
-        insert.execute(params![id(one.id.0), uuid(2, one.id.0), id(one.begin.0), end(one.end.0), id(one.schema.0), name, path, true])?;
+    for one in lake.records().tables() {
+        let (path, begin, end) = (format!("{}/", one.name), id(one.life.begin.0), end(one.life.end));
+        insert.execute(params![id(one.id.0), uuid(2, one.id.0), begin, end, id(one.schema.0), one.name, path, true])?;
     }
     let mut insert = into.prepare(
         "INSERT INTO ducklake_column (column_id, begin_snapshot, end_snapshot, table_id, column_order, column_name, column_type, nulls_allowed) \
          VALUES (?, ?, ?, ?, ?, ?, ?, ?)",
     )?;
-    for (one, name) in records::columns(lake) {
-        let (kind, nulls) = (type_name(one.type_code), one.nulls_allowed == 1);
-        insert.execute(params![id(one.id), id(one.begin.0), end(one.end.0), id(one.table.0), id(one.order), name, kind, nulls])?;
+    for one in lake.records().columns() {
+        let (kind, begin, end) = (one.column_type.name(), id(one.life.begin.0), end(one.life.end));
+        insert.execute(params![id(one.id), begin, end, id(one.table.0), id(one.order), one.name, kind, one.nulls_allowed])?;
     }
     Ok(())
 }
@@ -209,41 +205,60 @@ fn files(lake: &Lake, into: &Transaction<'_>, stored: &Stored) -> rusqlite::Resu
          record_count, file_size_bytes, row_id_start) \
          VALUES (?, ?, ?, ?, ?, ?, true, 'parquet', ?, ?, ?)",
     )?;
-    for one in records::data_files(lake) {
+    for one in lake.records().data_files() {
         let (own, rows, first) = (id(one.id.0), id(one.record_count), id(one.row_id_start.0));
-        insert.execute(params![own, id(one.table.0), id(one.begin.0), end(one.end.0), own, one.uuid.path(), rows, stored.size(one.id), first])?;
+        insert.execute(params![
+            own,
+            id(one.table.0),
+            id(one.life.begin.0),
+            end(one.life.end),
+            own,
+            one.uuid.path(),
+            rows,
+            stored.size(one.id),
+            first
+        ])?;
     }
     let mut insert = into.prepare(
         "INSERT INTO ducklake_delete_file (delete_file_id, table_id, begin_snapshot, end_snapshot, data_file_id, path, path_is_relative, format, delete_count, \
          file_size_bytes) VALUES (?, ?, ?, ?, ?, ?, true, 'parquet', ?, ?)",
     )?;
-    for one in records::delete_files(lake) {
+    for one in lake.records().delete_files() {
         let (own, data_file, count) = (id(one.id.0), id(one.data_file.0), id(one.delete_count));
-        insert.execute(params![own, id(one.table.0), id(one.begin.0), end(one.end.0), data_file, one.uuid.path(), count, stored.size(one.id)])?;
+        insert.execute(params![
+            own,
+            id(one.table.0),
+            id(one.life.begin.0),
+            end(one.life.end),
+            data_file,
+            one.uuid.path(),
+            count,
+            stored.size(one.id)
+        ])?;
     }
     // "The file name is either relative to the data_path value in ducklake_metadata or absolute."
     let mut insert = into.prepare("INSERT INTO ducklake_files_scheduled_for_deletion VALUES (?, ?, true, ?)")?;
-    for (one, path) in records::scheduled(lake).zip(&stored.scheduled) {
+    for (one, path) in lake.records().scheduled().zip(&stored.scheduled) {
         insert.execute(params![id(one.file.0), path, timestamp(one.schedule_start)])?;
     }
     Ok(())
 }
 
 /// A bound, "encoded as a string"; none where it is missing.
-fn bound(flag: u64, word: u64) -> Option<String> {
-    (flag == 1).then(|| (word as i64).to_string())
+fn bound(value: Option<i64>) -> Option<String> {
+    value.map(|value| value.to_string())
 }
 
 /// No type here has NaN values.
 fn statistics(lake: &Lake, into: &Transaction<'_>) -> rusqlite::Result<()> {
-    let of_file: BTreeMap<u64, (u64, u64)> = records::data_files(lake).map(|file| (file.id.0, (file.table.0, file.record_count))).collect();
+    let of_file: BTreeMap<u64, (u64, u64)> = lake.records().data_files().map(|file| (file.id.0, (file.table.0, file.record_count))).collect();
     let mut insert = into.prepare(
         "INSERT INTO ducklake_file_column_stats (data_file_id, table_id, column_id, value_count, null_count, min_value, max_value, \
          contains_nan) VALUES (?, ?, ?, ?, ?, ?, ?, false)",
     )?;
-    for one in records::statistics(lake) {
+    for one in lake.records().statistics() {
         let (table, rows) = of_file.get(&one.data_file.0).copied().unwrap_or((0, 0));
-        let (min, max) = (bound(one.has_min, one.min), bound(one.has_max, one.max));
+        let (min, max) = (bound(one.min), bound(one.max));
         insert.execute(params![id(one.data_file.0), id(table), id(one.column), id(rows), id(one.null_count), min, max])?;
     }
     Ok(())
@@ -288,11 +303,11 @@ impl Over {
     const NO_FILES: Over = Over { nulls: false, min: Bound::Vacant, max: Bound::Vacant };
 
     /// With one more file. Where every row is null there is no value to bound.
-    fn add(&mut self, one: &StatisticsRecord, rows: u64) {
+    fn add(&mut self, one: &Statistics, rows: u64) {
         self.nulls |= one.null_count > 0;
         if one.null_count < rows {
-            self.min = self.min.with((one.has_min == 1).then_some(one.min as i64), i64::min);
-            self.max = self.max.with((one.has_max == 1).then_some(one.max as i64), i64::max);
+            self.min = self.min.with(one.min, i64::min);
+            self.max = self.max.with(one.max, i64::max);
         }
     }
 }
@@ -300,15 +315,15 @@ impl Over {
 /// A table without an insert has no statistics: "If there are none, we need to use INSERT". Deletes leave them: they "are maintained as upper bounds".
 fn table_statistics(lake: &Lake, into: &Transaction<'_>, stored: &Stored) -> rusqlite::Result<()> {
     let mut insert = into.prepare("INSERT INTO ducklake_table_stats VALUES (?, ?, ?, ?)")?;
-    for (one, _) in records::tables(lake).filter(|(table, _)| table.next_row_id.0 > 0) {
+    for one in lake.records().tables().filter(|table| table.next_row_id.0 > 0) {
         // "the total file size of all data files in the table", of those on record
-        let sizes = records::data_files(lake).filter(|file| file.table == one.id).map(|file| stored.size(file.id));
+        let sizes = lake.records().data_files().filter(|file| file.table == one.id).map(|file| stored.size(file.id));
         let size = if stored.sizes.is_some() { Some(sizes.flatten().fold(0, i64::saturating_add)) } else { None };
         insert.execute(params![id(one.id.0), id(one.next_row_id.0), id(one.next_row_id.0), size])?;
     }
-    let of_file: BTreeMap<u64, (u64, u64)> = records::data_files(lake).map(|file| (file.id.0, (file.table.0, file.record_count))).collect();
+    let of_file: BTreeMap<u64, (u64, u64)> = lake.records().data_files().map(|file| (file.id.0, (file.table.0, file.record_count))).collect();
     let mut over: BTreeMap<(u64, u64), Over> = BTreeMap::new();
-    for one in records::statistics(lake) {
+    for one in lake.records().statistics() {
         let (table, rows) = of_file.get(&one.data_file.0).copied().unwrap_or((0, 0));
         over.entry((table, one.column)).or_insert(Over::NO_FILES).add(&one, rows);
     }

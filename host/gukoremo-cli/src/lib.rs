@@ -22,7 +22,6 @@ pub mod lock;
 pub mod manual;
 pub mod play;
 pub mod readings;
-pub mod records;
 pub mod refused;
 pub mod rights;
 pub mod runs;

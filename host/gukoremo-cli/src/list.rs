@@ -1,6 +1,7 @@
 //! Answers: a list as a table for a terminal, as CSV or as JSON; a change as a sentence, or as one record of these.
 
 use crate::failure::Failure;
+use gukoremo::SnapshotId;
 use std::fs::{self, File};
 use std::io::{self, Read, Write};
 use std::os::fd::AsFd;
@@ -22,13 +23,9 @@ pub enum Cell {
 }
 
 impl Cell {
-    /// A number, or nothing where it is ABSENT.
-    pub fn end(word: u64) -> Cell {
-        if word == gukoremo::number::ABSENT {
-            Cell::Nothing
-        } else {
-            Cell::Number(word)
-        }
+    /// The end of a life; nothing where it is open.
+    pub fn end(end: Option<SnapshotId>) -> Cell {
+        end.map_or(Cell::Nothing, |end| Cell::Number(end.0))
     }
 
     pub fn plain(&self) -> String {
@@ -205,6 +202,6 @@ mod tests {
     fn cells() {
         assert_eq!(Cell::Text("a,\"b".to_string()).csv(), "\"a,\"\"b\"");
         assert_eq!(Cell::Text("a\"\n".to_string()).json(), "\"a\\\"\\u000a\"");
-        assert_eq!(object(&["a", "b"], &[Cell::Number(1), Cell::end(u64::MAX)]), "{\"a\": 1, \"b\": null}");
+        assert_eq!(object(&["a", "b"], &[Cell::Number(1), Cell::end(None)]), "{\"a\": 1, \"b\": null}");
     }
 }

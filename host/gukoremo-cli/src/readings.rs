@@ -4,14 +4,12 @@ use crate::ask;
 use crate::failure::Failure;
 use crate::file::{self, Lake};
 use crate::list::{output, Cell, Form, List, Said};
-use crate::records;
 use crate::source::{in_one_list, Source};
 use crate::storage;
-use crate::values::columns::type_name;
 use crate::values::names::{Reference, TableReference};
-use crate::values::{times, uuids};
+use crate::values::times;
 use clap::ArgMatches;
-use gukoremo::{CatalogId, DataFileRecord, DeleteFileRecord, FileId, Listed, SnapshotId, Uuid};
+use gukoremo::{CatalogId, DataFile, DeleteFile, File, FileId, Listed, Schema, SnapshotId, Uuid};
 use std::collections::HashMap;
 use std::path::PathBuf;
 
@@ -56,13 +54,13 @@ fn snapshots(lake: &Lake) -> Result<List, Failure> {
     // no reading lists them; this one refuses tables that are not sound
     ask::by_time(lake, u64::MAX)?;
     let mut list = List::new(&["snapshot", "time", "when", "change", "object", "schema_version"]);
-    for snapshot in records::snapshots(lake) {
+    for snapshot in lake.records().snapshots() {
         list.rows.push(vec![
             number(snapshot.id.0),
             number(snapshot.time),
             text(times::rfc(snapshot.time)),
-            text(records::kind_name(snapshot.kind)),
-            number(snapshot.object.0),
+            text(snapshot.change.name()),
+            number(snapshot.change.object().0),
             number(snapshot.schema_version),
         ]);
     }
@@ -72,7 +70,7 @@ fn snapshots(lake: &Lake) -> Result<List, Failure> {
 fn scheduled(lake: &Lake) -> Result<List, Failure> {
     ask::by_time(lake, u64::MAX)?;
     let mut list = List { note: storage::NO_TABLE, ..List::new(&["file", "path_in_table", "schedule_start", "when"]) };
-    for file in records::scheduled(lake) {
+    for file in lake.records().scheduled() {
         list.rows.push(vec![number(file.file.0), text(file.uuid.path()), number(file.schedule_start), text(times::rfc(file.schedule_start))]);
     }
     Ok(list)
@@ -80,11 +78,10 @@ fn scheduled(lake: &Lake) -> Result<List, Failure> {
 
 fn schemas(lake: &mut Lake, given: &ArgMatches) -> Result<List, Failure> {
     let listed = in_one_list(lake, |from| ask::schemas(from, at(from, given)?))?;
-    let known: HashMap<u64, (u64, u64, String)> =
-        records::schemas(lake).map(|(schema, name)| (schema.id.0, (schema.begin.0, schema.end.0, name))).collect();
+    let known: HashMap<CatalogId, Schema> = lake.records().schemas().map(|schema| (schema.id, schema)).collect();
     let mut list = List::new(&["schema", "name", "begin", "end"]);
-    for (id, (begin, end, name)) in listed.iter().filter_map(|id| Some((id, known.get(&id.0)?))) {
-        list.rows.push(vec![number(id.0), text(name), number(*begin), Cell::end(*end)]);
+    for schema in listed.iter().filter_map(|id| known.get(id)) {
+        list.rows.push(vec![number(schema.id.0), text(&schema.name), number(schema.life.begin.0), Cell::end(schema.life.end)]);
     }
     Ok(list)
 }
@@ -95,10 +92,11 @@ fn tables(lake: &mut Lake, given: &ArgMatches) -> Result<List, Failure> {
         let at = at(from, given)?;
         ask::tables(from, at, ask::schema_id(from, at, given.get_one("schema").unwrap_or(&main))?)
     })?;
-    let known: HashMap<u64, _> = records::tables(lake).map(|(table, name)| (table.id.0, (table, name))).collect();
+    let known: HashMap<CatalogId, _> = lake.records().tables().map(|table| (table.id, table)).collect();
     let mut list = List::new(&["table", "name", "begin", "end", "next_row"]);
-    for (table, name) in listed.iter().filter_map(|id| known.get(&id.0)) {
-        list.rows.push(vec![number(table.id.0), text(name), number(table.begin.0), Cell::end(table.end.0), number(table.next_row_id.0)]);
+    for table in listed.iter().filter_map(|id| known.get(id)) {
+        let (begin, end) = (number(table.life.begin.0), Cell::end(table.life.end));
+        list.rows.push(vec![number(table.id.0), text(&table.name), begin, end, number(table.next_row_id.0)]);
     }
     Ok(list)
 }
@@ -115,11 +113,10 @@ fn columns(lake: &mut Lake, given: &ArgMatches) -> Result<List, Failure> {
         let (at, table) = table(from, given)?;
         Ok((table, ask::columns(from, at, table)?))
     })?;
-    let of_table = records::columns(lake).filter(|(column, _)| column.table == table);
-    let known: HashMap<u64, _> = of_table.map(|(column, name)| (column.id, (column, name))).collect();
+    let known: HashMap<u64, _> = lake.records().columns_of(table).map(|column| (column.id, column)).collect();
     let mut list = List::new(&["column", "name", "type", "nulls_allowed"]);
-    for (column, name) in listed.iter().filter_map(|id| known.get(id)) {
-        list.rows.push(vec![number(column.id), text(name), text(type_name(column.type_code)), Cell::Flag(column.nulls_allowed == 1)]);
+    for column in listed.iter().filter_map(|id| known.get(id)) {
+        list.rows.push(vec![number(column.id), text(&column.name), text(column.column_type.name()), Cell::Flag(column.nulls_allowed)]);
     }
     Ok(list)
 }
@@ -138,15 +135,15 @@ fn files(lake: &mut Lake, given: &ArgMatches, form: Form) -> Result<List, Failur
 
 /// In CSV the paths alone, as document 01 prints them.
 fn file_list(lake: &Lake, listed: &[Listed], form: Form) -> List {
-    let data: HashMap<u64, DataFileRecord> = records::data_files(lake).map(|file| (file.id.0, file)).collect();
-    let delete: HashMap<u64, DeleteFileRecord> = records::delete_files(lake).map(|file| (file.id.0, file)).collect();
+    let data: HashMap<FileId, DataFile> = lake.records().data_files().map(|file| (file.id, file)).collect();
+    let delete: HashMap<FileId, DeleteFile> = lake.records().delete_files().map(|file| (file.id, file)).collect();
     let path = |uuid: Option<Uuid>| uuid.map_or(Cell::Nothing, |uuid| text(uuid.path()));
     let mut list = match form {
         Form::Csv => List::new(&["data_file", "delete_file"]),
         _ => List::new(&["file", "rows", "first_row", "data_file", "deletes", "deleted", "delete_file"]),
     };
-    for (pair, file) in listed.iter().filter_map(|pair| Some((pair, data.get(&pair.data_file.0)?))) {
-        let deletes = pair.delete_file.and_then(|id| delete.get(&id.0));
+    for (pair, file) in listed.iter().filter_map(|pair| Some((pair, data.get(&pair.data_file)?))) {
+        let deletes = pair.delete_file.and_then(|id| delete.get(&id));
         let paths = (path(Some(file.uuid)), path(deletes.map(|deletes| deletes.uuid)));
         list.rows.push(match form {
             Form::Csv => vec![paths.0, paths.1],
@@ -188,7 +185,7 @@ fn rows(lake: &mut Lake, given: &ArgMatches, form: Form) -> Result<(), Failure> 
 fn snapshot_at(lake: &Lake, given: &ArgMatches) -> Result<Said, Failure> {
     let time = *given.get_one::<u64>("time").expect("required");
     let id = ask::by_time(lake, time)?;
-    let own = records::snapshots(lake).find(|snapshot| snapshot.id == id).map_or(0, |snapshot| snapshot.time);
+    let own = lake.records().snapshot(id).map_or(0, |snapshot| snapshot.time);
     Ok(Said {
         sentence: format!("snapshot {}, of {own} ({})", id.0, times::rfc(own)),
         fields: vec![("snapshot", number(id.0)), ("time", number(own))],
@@ -197,26 +194,21 @@ fn snapshot_at(lake: &Lake, given: &ArgMatches) -> Result<Said, Failure> {
 
 /// The record, a field to a line.
 fn lookup(lake: &Lake, id: FileId) -> Result<Said, Failure> {
-    let words = ask::lookup(lake, id)?;
-    let is_data_file = records::data_files(lake).any(|file| file.id == id);
-    let (kind, own, uuid) = if is_data_file {
-        let file = DataFileRecord::read(&words);
-        ("data_file", [("record_count", number(file.record_count)), ("row_id_start", number(file.row_id_start.0))], file.uuid)
-    } else {
-        let file = DeleteFileRecord::read(&words);
-        ("delete_file", [("data_file", number(file.data_file.0)), ("delete_count", number(file.delete_count))], file.uuid)
+    let found = ask::lookup(lake, id)?;
+    let (kind, own) = match found {
+        File::Data(file) => ("data_file", [("record_count", number(file.record_count)), ("row_id_start", number(file.row_id_start.0))]),
+        File::Delete(file) => ("delete_file", [("data_file", number(file.data_file.0)), ("delete_count", number(file.delete_count))]),
     };
-    // the first words of both records are the same
     let mut fields = vec![
         ("kind", text(kind)),
-        ("id", number(words[DataFileRecord::ID])),
-        ("table", number(words[DataFileRecord::TABLE])),
-        ("begin", number(words[DataFileRecord::BEGIN])),
-        ("end", Cell::end(words[DataFileRecord::END])),
+        ("id", number(found.id().0)),
+        ("table", number(found.table().0)),
+        ("begin", number(found.life().begin.0)),
+        ("end", Cell::end(found.life().end)),
     ];
     fields.extend(own);
     let path = storage::paths(lake).remove(&id.0).unwrap_or_default();
-    fields.extend([("uuid", text(uuids::show(uuid))), ("path", text(path))]);
+    fields.extend([("uuid", text(found.uuid().to_string())), ("path", text(path))]);
     let lines: Vec<String> = fields.iter().map(|(name, cell)| format!("{name:<13} {}", cell.plain()).trim_end().to_string()).collect();
     Ok(Said { sentence: lines.join("\n"), fields })
 }

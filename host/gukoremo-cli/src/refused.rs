@@ -2,14 +2,11 @@
 
 use crate::failure::{code, Failure};
 use crate::file::Lake;
-use crate::records;
 use crate::runs;
-use crate::values::columns::type_name;
 use crate::values::statistics::broken_rule;
-use crate::values::{times, uuids};
+use crate::values::times;
 use gukoremo::number::{COLUMN_LIMIT, NAME_SIZE};
-use gukoremo::record::ColumnRecord;
-use gukoremo::{FileId, NewStatistics, Refusal, SnapshotId, Uuid};
+use gukoremo::{Column, FileId, NewStatistics, Refusal, SnapshotId, Uuid};
 
 /// What was asked, as far as a refusal can be about it.
 #[derive(Default)]
@@ -21,7 +18,7 @@ pub struct Asked<'a> {
     pub column_names: Vec<&'a str>,
     pub rows: u64,
     pub uuid: Option<Uuid>,
-    pub columns: Vec<(ColumnRecord, String)>,
+    pub columns: Vec<Column>,
     pub statistics: &'a [NewStatistics],
     pub file: Option<FileId>,
     pub list: &'a [u64],
@@ -45,7 +42,7 @@ pub fn refuse(refusal: Refusal, lake: &Lake, asked: &Asked<'_>) -> Failure {
 }
 
 fn reason(refusal: Refusal, lake: &Lake, asked: &Asked<'_>) -> (String, String) {
-    let latest = records::latest(lake);
+    let latest = lake.records().latest();
     let latest_id = latest.map_or(0, |snapshot| snapshot.id.0);
     let thing = asked.thing.clone().unwrap_or_else(|| "it".to_string());
     let (why, advice): (String, &str) = match refusal {
@@ -70,7 +67,7 @@ fn reason(refusal: Refusal, lake: &Lake, asked: &Asked<'_>) -> (String, String) 
             "see what is there with 'gukoremo schemas', 'tables', 'columns' or 'files', and give --at for an older snapshot.",
         ),
         Refusal::NoSnapshotByThen => (
-            match records::snapshots(lake).next() {
+            match lake.records().snapshots().next() {
                 Some(first) => format!(
                     "the first snapshot that is retained is {}, of {}, and you ask for {}.",
                     first.id.0,
@@ -121,14 +118,14 @@ fn reason(refusal: Refusal, lake: &Lake, asked: &Asked<'_>) -> (String, String) 
 }
 
 fn fullness(lake: &Lake) -> String {
-    let places = runs::places(lake.view());
+    let places = runs::words_of(lake.view().room());
     let used = runs::words_of(lake.counts());
     let parts: Vec<String> = (0..9).map(|at| format!("{} {} of {}", runs::TABLES[at], used[at], places[at])).collect();
     parts.join(", ")
 }
 
 fn not_retained(lake: &Lake, asked: &Asked<'_>) -> String {
-    let ids: Vec<u64> = records::snapshots(lake).map(|snapshot| snapshot.id.0).collect();
+    let ids: Vec<u64> = lake.records().snapshots().map(|snapshot| snapshot.id.0).collect();
     let asked_for: Vec<u64> = match asked.at {
         Some(at) => vec![at.0],
         None => asked.list.iter().copied().filter(|id| ids.binary_search(id).is_err()).collect(),
@@ -166,17 +163,17 @@ fn bad_columns(asked: &Asked<'_>) -> String {
 
 fn uuid_taken(lake: &Lake, asked: &Asked<'_>) -> String {
     let Some(uuid) = asked.uuid else { return "the UUID is in use.".to_string() };
-    let data = records::data_files(lake).filter(|file| file.uuid == uuid).map(|file| format!("data file {}", file.id.0));
-    let delete = records::delete_files(lake).filter(|file| file.uuid == uuid).map(|file| format!("delete file {}", file.id.0));
-    let scheduled = records::scheduled(lake).filter(|file| file.uuid == uuid).map(|file| format!("file {}, which is scheduled,", file.file.0));
+    let data = lake.records().data_files().filter(|file| file.uuid == uuid).map(|file| format!("data file {}", file.id.0));
+    let delete = lake.records().delete_files().filter(|file| file.uuid == uuid).map(|file| format!("delete file {}", file.id.0));
+    let scheduled = lake.records().scheduled().filter(|file| file.uuid == uuid).map(|file| format!("file {}, which is scheduled,", file.file.0));
     let holder = data.chain(delete).chain(scheduled).next().unwrap_or_else(|| "another file".to_string());
-    format!("{holder} has {}.", uuids::show(uuid))
+    format!("{holder} has {}.", uuid)
 }
 
 fn bad_statistics(asked: &Asked<'_>) -> String {
     let broken = broken_rule(&asked.columns, asked.rows, asked.statistics).unwrap_or_else(|| "they break a rule".to_string());
-    let mark = |column: &ColumnRecord| if column.nulls_allowed == 1 { "?" } else { "" };
-    let shown: Vec<String> = asked.columns.iter().map(|(column, name)| format!("{name}:{}{}", type_name(column.type_code), mark(column))).collect();
+    let mark = |column: &Column| if column.nulls_allowed { "?" } else { "" };
+    let shown: Vec<String> = asked.columns.iter().map(|column| format!("{}:{}{}", column.name, column.column_type, mark(column))).collect();
     format!("{broken}. The table's columns are {}.", shown.join(", "))
 }
 
@@ -187,7 +184,7 @@ fn bad_positions(lake: &Lake, asked: &Asked<'_>) -> String {
     if let Some(pair) = asked.list.windows(2).find(|pair| pair[0] >= pair[1]) {
         return format!("{} stands after {}.", pair[1], pair[0]);
     }
-    match records::data_files(lake).find(|file| Some(file.id) == asked.file) {
+    match asked.file.and_then(|id| lake.records().data_file(id)) {
         Some(file) => format!("file {} has {} rows, positions 0 to {}.", file.id.0, file.record_count, file.record_count.saturating_sub(1)),
         None => "a position is past the file.".to_string(),
     }

@@ -4,7 +4,7 @@ use gukoremo::number::{NAME_SIZE, POSITION_LIMIT, TABLE_LIMIT};
 use gukoremo::record::{
     ColumnRecord, DataFileRecord, DeleteFileRecord, ScheduledRecord, SchemaRecord, SnapshotRecord, StatisticsRecord, TableRecord,
 };
-use gukoremo::{Counts, OwnedTables, TablesView};
+use gukoremo::{Counts, OwnedTables};
 
 /// A run, to be changed.
 pub enum Run<'a> {
@@ -111,20 +111,4 @@ pub fn words_of(counts: Counts) -> [usize; 9] {
 pub fn room(records: usize) -> Counts {
     let positions = records * (POSITION_LIMIT / TABLE_LIMIT);
     Counts { positions, ..counts_of([records; 9]) }
-}
-
-/// The records that the tables have places for.
-pub fn places(tables: TablesView<'_>) -> [usize; 9] {
-    let named = |words: &[u64], size: usize, names: &[u8]| (words.len() / size).min(names.len() / NAME_SIZE);
-    [
-        tables.snapshots.len() / SnapshotRecord::SIZE,
-        named(tables.schemas, SchemaRecord::SIZE, tables.schema_names),
-        named(tables.tables, TableRecord::SIZE, tables.table_names),
-        named(tables.columns, ColumnRecord::SIZE, tables.column_names),
-        tables.data_files.len() / DataFileRecord::SIZE,
-        tables.delete_files.len() / DeleteFileRecord::SIZE,
-        tables.positions.len(),
-        tables.statistics.len() / StatisticsRecord::SIZE,
-        tables.scheduled.len() / ScheduledRecord::SIZE,
-    ]
 }

@@ -2,10 +2,8 @@
 
 use crate::ask::timed;
 use crate::file::Lake;
-use crate::records;
 use gukoremo::number::COLUMN_LIMIT;
-use gukoremo::record::{ColumnRecord, SchemaRecord, TableRecord};
-use gukoremo::{raw, CallList, CatalogId, Counts, DataFileRecord, FileId, Outcome, Refusal, SnapshotId, TablesView};
+use gukoremo::{raw, CallList, CatalogId, Column, Counts, Outcome, Refusal, SnapshotId, Table, TablesView};
 use std::cell::{OnceCell, RefCell};
 use std::collections::{HashMap, HashSet};
 
@@ -26,7 +24,6 @@ pub enum Reading {
     /// With a column and a value those that may hold a row with it.
     Files(SnapshotId, CatalogId, Option<(u64, i64)>),
     Rows(SnapshotId, CatalogId),
-    Lookup(FileId),
 }
 
 impl Reading {
@@ -40,7 +37,6 @@ impl Reading {
             Reading::Files(at, table, None) => raw::list_files(lent, counts, *at, *table, area),
             Reading::Files(at, table, Some((column, scalar))) => raw::list_filtered_files(lent, counts, *at, *table, *column, *scalar, area),
             Reading::Rows(at, table) => raw::list_rows(lent, counts, *at, *table, area),
-            Reading::Lookup(file) => raw::copy_file(lent, counts, *file, area),
         }
     }
 
@@ -54,27 +50,22 @@ impl Reading {
             Reading::Files(at, table, None) => list.push_list_files(*at, *table),
             Reading::Files(at, table, Some((column, scalar))) => list.push_list_filtered_files(*at, *table, *column, *scalar),
             Reading::Rows(at, table) => list.push_list_rows(*at, *table),
-            Reading::Lookup(file) => list.push_copy_file(*file),
         }
     }
 
     /// Words that the answer has at most; tables that are not sound are refused whatever the area.
     pub fn most(&self, lake: &Lake) -> u64 {
-        let (view, counts) = (lake.view(), lake.counts());
+        let records = lake.records();
         match self {
             Reading::ByTime(_) | Reading::TableByName(..) => 1,
-            Reading::Schemas(_) => view.schemas.chunks_exact(SchemaRecord::SIZE).take(counts.schemas).count() as u64,
-            Reading::Tables(_, schema) => {
-                let tables = view.tables.chunks_exact(TableRecord::SIZE).take(counts.tables);
-                tables.filter(|table| table[TableRecord::SCHEMA] == schema.0).count() as u64
-            }
+            Reading::Schemas(_) => records.schemas().count() as u64,
+            Reading::Tables(_, schema) => records.tables().filter(|table| table.schema == *schema).count() as u64,
             Reading::Columns(..) => COLUMN_LIMIT as u64,
-            Reading::Files(_, table, _) => 2 * records::data_files(lake).filter(|file| file.table == *table).count() as u64,
+            Reading::Files(_, table, _) => 2 * records.data_files().filter(|file| file.table == *table).count() as u64,
             Reading::Rows(at, table) => {
-                let of_table = |file: &DataFileRecord| file.table == *table && records::live(file.begin, file.end, *at);
-                records::data_files(lake).filter(of_table).fold(0, |sum: u64, file| sum.saturating_add(file.record_count))
+                let of_table = records.data_files().filter(|file| file.table == *table && file.life.is_live_at(*at));
+                of_table.fold(0, |sum: u64, file| sum.saturating_add(file.record_count))
             }
-            Reading::Lookup(_) => DataFileRecord::SIZE as u64,
         }
     }
 }
@@ -158,8 +149,8 @@ impl Source for Known<'_> {
 struct Guess<'a> {
     lake: &'a Lake,
     /// Read where they are needed, and once.
-    tables: OnceCell<Vec<(TableRecord, String)>>,
-    columns: OnceCell<Vec<ColumnRecord>>,
+    tables: OnceCell<Vec<Table>>,
+    columns: OnceCell<Vec<Column>>,
     seen: RefCell<HashSet<Reading>>,
     asked: RefCell<Vec<Reading>>,
 }
@@ -169,14 +160,14 @@ impl Guess<'_> {
         Guess { lake, tables: OnceCell::new(), columns: OnceCell::new(), seen: RefCell::default(), asked: RefCell::default() }
     }
 
-    fn tables(&self, at: SnapshotId, schema: CatalogId) -> impl Iterator<Item = &(TableRecord, String)> {
-        let tables = self.tables.get_or_init(|| records::tables(self.lake).collect());
-        tables.iter().filter(move |(table, _)| table.schema == schema && records::live(table.begin, table.end, at))
+    fn tables(&self, at: SnapshotId, schema: CatalogId) -> impl Iterator<Item = &Table> {
+        let tables = self.tables.get_or_init(|| self.lake.records().tables().collect());
+        tables.iter().filter(move |table| table.schema == schema && table.life.is_live_at(at))
     }
 
-    fn columns(&self, at: SnapshotId, table: CatalogId) -> impl Iterator<Item = &ColumnRecord> {
-        let columns = self.columns.get_or_init(|| records::columns(self.lake).map(|(column, _)| column).collect());
-        columns.iter().filter(move |column| column.table == table && records::live(column.begin, column.end, at))
+    fn columns(&self, at: SnapshotId, table: CatalogId) -> impl Iterator<Item = &Column> {
+        let columns = self.columns.get_or_init(|| self.lake.records().columns().collect());
+        columns.iter().filter(move |column| column.table == table && column.life.is_live_at(at))
     }
 }
 
@@ -192,20 +183,19 @@ impl Source for Guess<'_> {
         let one = |found: Option<u64>, refusal: Refusal| found.map(|id| vec![id]).ok_or(refusal);
         match reading {
             Reading::ByTime(time) => {
-                let found = records::snapshots(self.lake).rev().find(|snapshot| snapshot.time <= *time);
+                let found = self.lake.records().snapshots().rev().find(|snapshot| snapshot.time <= *time);
                 one(found.map(|snapshot| snapshot.id.0), Refusal::NoSnapshotByThen)
             }
             Reading::Schemas(at) => {
-                let live = records::schemas(self.lake).filter(|(schema, _)| records::live(schema.begin, schema.end, *at));
-                Ok(live.map(|(schema, _)| schema.id.0).collect())
+                let live = self.lake.records().schemas().filter(|schema| schema.life.is_live_at(*at));
+                Ok(live.map(|schema| schema.id.0).collect())
             }
-            Reading::Tables(at, schema) => Ok(self.tables(*at, *schema).map(|(table, _)| table.id.0).collect()),
+            Reading::Tables(at, schema) => Ok(self.tables(*at, *schema).map(|table| table.id.0).collect()),
             Reading::Columns(at, table) => Ok(self.columns(*at, *table).map(|column| column.id).collect()),
             Reading::TableByName(at, schema, name) => {
-                one(self.tables(*at, *schema).find(|(_, own)| own == name).map(|(table, _)| table.id.0), Refusal::NotLive)
+                one(self.tables(*at, *schema).find(|table| table.name == *name).map(|table| table.id.0), Refusal::NotLive)
             }
             Reading::Files(..) | Reading::Rows(..) => Ok(Vec::new()),
-            Reading::Lookup(_) => Err(Refusal::NotLive),
         }
     }
 }

@@ -4,7 +4,6 @@
 use crate::failure::{code, Failure};
 use crate::file::Lake;
 use crate::list::{Cell, Form, List, Said};
-use crate::records;
 use std::collections::BTreeMap;
 use std::fs;
 use std::path::Path;
@@ -18,11 +17,12 @@ pub fn folder(schema: &str, table: &str) -> String {
 
 /// The paths of the data and delete files on record, by id.
 pub fn paths(lake: &Lake) -> BTreeMap<u64, String> {
-    let schemas: BTreeMap<u64, String> = records::schemas(lake).map(|(schema, name)| (schema.id.0, name)).collect();
+    let records = lake.records();
+    let schemas: BTreeMap<u64, String> = records.schemas().map(|schema| (schema.id.0, schema.name)).collect();
     let name = |id: u64| schemas.get(&id).cloned().unwrap_or_else(|| id.to_string());
-    let folders: BTreeMap<u64, String> = records::tables(lake).map(|(table, own)| (table.id.0, folder(&name(table.schema.0), &own))).collect();
-    let data = records::data_files(lake).map(|file| (file.id, file.table, file.uuid));
-    let files = data.chain(records::delete_files(lake).map(|file| (file.id, file.table, file.uuid)));
+    let folders: BTreeMap<u64, String> = records.tables().map(|table| (table.id.0, folder(&name(table.schema.0), &table.name))).collect();
+    let data = records.data_files().map(|file| (file.id, file.table, file.uuid));
+    let files = data.chain(records.delete_files().map(|file| (file.id, file.table, file.uuid)));
     files.map(|(id, table, uuid)| (id.0, format!("{}{}", folders.get(&table.0).map_or("", String::as_str), uuid.path()))).collect()
 }
 

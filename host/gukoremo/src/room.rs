@@ -4,6 +4,7 @@ use crate::answers::LISTED_SIZE;
 use crate::list::CallList;
 use crate::number::{CatalogId, SnapshotId, COLUMN_LIMIT, HANDED_SIZE, RECORD_COUNT_LIMIT};
 use crate::outcome::Counts;
+use crate::reader::Records;
 use crate::record::{DataFileRecord, CREATED_SCHEMA, CREATED_TABLE, DELETED_FROM_TABLE, INSERTED_INTO_TABLE};
 use crate::session::{
     CallRecord, CLEANED_UP, COPIED_FILE, FOUND_SNAPSHOT_BY_TIME, FOUND_TABLE_BY_NAME, LISTED_COLUMNS, LISTED_FILES, LISTED_FILTERED_FILES,
@@ -28,9 +29,8 @@ pub fn room_for(list: &CallList, view: TablesView<'_>, counts: Counts) -> usize 
 }
 
 /// Rows of a table at a snapshot, those that are deleted too: the most words that a list of them can have.
-pub fn rows_of(view: TablesView<'_>, counts: Counts, snapshot: SnapshotId, table: CatalogId) -> usize {
-    let files = view.data_files.chunks_exact(DataFileRecord::SIZE).take(counts.data_files).map(DataFileRecord::read);
-    let listed = files.filter(|file| file.table == table && file.begin.0 <= snapshot.0 && snapshot.0 < file.end.0);
+pub fn rows_of(records: Records<'_>, snapshot: SnapshotId, table: CatalogId) -> usize {
+    let listed = records.data_files().filter(|file| file.table == table && file.life.is_live_at(snapshot));
     listed.fold(0, |sum: usize, file| sum.saturating_add(rows(file.record_count)))
 }
 

@@ -12,15 +12,20 @@ pub const TOLD_SIZE: usize = 3;
 #[repr(C)]
 #[derive(Clone, Copy, Debug, PartialEq, Eq)]
 pub struct Session {
+    /// How many of its records were played: all, or those before the first that asks for nothing.
     pub played: usize,
+    /// The words of all their answers.
     pub answered: usize,
+    /// The counts after the last.
     pub counts: Counts,
 }
 
 /// Where an argument lies in the run of its kind: its first word or byte, and how many.
 #[derive(Clone, Copy, Debug, PartialEq, Eq)]
 pub struct Span {
+    /// The first word or byte.
     pub start: usize,
+    /// How many.
     pub length: usize,
 }
 
@@ -32,56 +37,91 @@ pub struct Span {
 /// leaves its run, one that is not taken too.
 #[derive(Clone, Copy, Debug, PartialEq, Eq)]
 pub struct CallRecord {
+    /// What is asked for: the kind of a change, in [`crate::record`], or one of those below.
     pub kind: u64,
+    /// The time of a call, and that of a cleanup or a reading by time.
     pub time: u64,
+    /// The snapshot that is read.
     pub snapshot: SnapshotId,
+    /// A schema or a table.
     pub catalog: CatalogId,
+    /// A data file or, for the lookup, any file.
     pub file: FileId,
+    /// The column that files are filtered by.
     pub column: u64,
+    /// The value that files are filtered by.
     pub scalar: u64,
+    /// The rows of a new file.
     pub record_count: u64,
+    /// The UUID of a new file.
     pub uuid: Uuid,
+    /// Columns, statistics, positions or snapshot ids.
     pub words: Span,
+    /// The name of a schema or a table.
     pub name: Span,
+    /// The places of the column names.
     pub names: Span,
 }
 
 impl CallRecord {
+    /// The words of a record.
     pub const SIZE: usize = 16;
 
+    /// The word of the kind.
     pub const KIND: usize = 0;
 
+    /// The word of the time.
     pub const TIME: usize = 1;
 
+    /// The word of the snapshot.
     pub const SNAPSHOT: usize = 2;
 
+    /// The word of the schema or table.
     pub const CATALOG: usize = 3;
 
+    /// The word of the file.
     pub const FILE: usize = 4;
 
+    /// The word of the column.
     pub const COLUMN: usize = 5;
 
+    /// The word of the scalar.
     pub const SCALAR: usize = 6;
 
+    /// The word of the record count.
     pub const RECORD_COUNT: usize = 7;
 
+    /// The word of the UUID's high half.
     pub const UUID_HIGH: usize = 8;
 
+    /// The word of the UUID's low half.
     pub const UUID_LOW: usize = 9;
 
+    /// The word of the first of its words.
     pub const WORDS_START: usize = 10;
 
+    /// The word of the number of its words.
     pub const WORDS_LENGTH: usize = 11;
 
+    /// The word of the name's first byte.
     pub const NAME_START: usize = 12;
 
+    /// The word of the name's length.
     pub const NAME_LENGTH: usize = 13;
 
+    /// The word of the first byte of the column names.
     pub const NAMES_START: usize = 14;
 
+    /// The word of the number of bytes of the column names.
     pub const NAMES_LENGTH: usize = 15;
 
     /// A record of a kind, with 0 in every other word.
+    ///
+    /// ```
+    /// use gukoremo::session::{CallRecord, CLEANED_UP};
+    ///
+    /// assert_eq!(CallRecord::of(CLEANED_UP).kind, CLEANED_UP);
+    /// ```
     pub fn of(kind: u64) -> CallRecord {
         let none = Span { start: 0, length: 0 };
         CallRecord {
@@ -100,6 +140,14 @@ impl CallRecord {
         }
     }
 
+    /// Its words.
+    ///
+    /// ```
+    /// use gukoremo::session::{CallRecord, CLEANED_UP};
+    ///
+    /// let words = CallRecord { time: 150, ..CallRecord::of(CLEANED_UP) }.to_words();
+    /// assert_eq!((words[CallRecord::KIND], words[CallRecord::TIME]), (CLEANED_UP, 150));
+    /// ```
     pub fn to_words(&self) -> [u64; CallRecord::SIZE] {
         let mut words = [0; CallRecord::SIZE];
         words[Self::KIND] = self.kind;
@@ -122,28 +170,38 @@ impl CallRecord {
     }
 }
 
-/// A commit's kind is that of the change that it makes, in [`crate::record`]. This one, the cleanup's and Fresh's are their own.
+/// The kind of an expiry. A commit's kind is that of the change that it makes, in [`crate::record`]; the other calls and the readings have their own.
 pub const EXPIRED_SNAPSHOTS: u64 = 100;
 
+/// The kind of a cleanup.
 pub const CLEANED_UP: u64 = 101;
 
+/// The kind of Fresh.
 pub const MADE_FRESH: u64 = 102;
 
-/// The kinds of readings, from this one on.
+/// The kind of a list of schemas.
 pub const LISTED_SCHEMAS: u64 = 200;
 
+/// The kind of a list of tables.
 pub const LISTED_TABLES: u64 = 201;
 
+/// The kind of a list of columns.
 pub const LISTED_COLUMNS: u64 = 202;
 
+/// The kind of a table by name.
 pub const FOUND_TABLE_BY_NAME: u64 = 203;
 
+/// The kind of a list of files.
 pub const LISTED_FILES: u64 = 204;
 
+/// The kind of a list of files by a value.
 pub const LISTED_FILTERED_FILES: u64 = 205;
 
+/// The kind of a list of rows.
 pub const LISTED_ROWS: u64 = 206;
 
+/// The kind of a snapshot by time.
 pub const FOUND_SNAPSHOT_BY_TIME: u64 = 207;
 
+/// The kind of the lookup of a file, which copies its record.
 pub const COPIED_FILE: u64 = 208;

@@ -2,8 +2,8 @@
 
 use gukoremo::session::{CallRecord, MADE_FRESH};
 use gukoremo::{
-    CallList, Catalog, CatalogId, ColumnType, Counts, DataFileRecord, File, FileId, Handed, Lend, Line, Listed, NewColumn, NewStatistics,
-    OwnedTables, Refusal, SnapshotId, Uuid,
+    CallList, Catalog, CatalogId, Change, ColumnType, Counts, File, FileId, Handed, Lend, Line, Listed, NewColumn, NewStatistics, OwnedTables,
+    Refusal, SnapshotId, Uuid,
 };
 
 const MAIN: CatalogId = CatalogId(0);
@@ -34,11 +34,11 @@ fn columns<'a>() -> [NewColumn<'a>; 2] {
 /// The session up to time 150.
 fn play<T: Lend>(tables: T) -> Result<Catalog<T>, Refusal> {
     let mut catalog = Catalog::fresh(tables, 100)?;
-    assert_eq!(catalog.create_table(110, MAIN, "diary", &columns())?.object, DIARY);
-    assert_eq!(catalog.insert(120, DIARY, 3, uuid(1), &statistics((1, 3), (9, 14), 0))?.next_file_id, FileId(1));
-    assert_eq!(catalog.insert(130, DIARY, 2, uuid(2), &statistics((4, 5), (20, 20), 1))?.id, SnapshotId(3));
-    catalog.delete(140, FileId(0), uuid(3), &[1])?;
-    catalog.delete(150, FileId(0), uuid(4), &[0])?;
+    assert_eq!(catalog.create_table(110, MAIN, "diary", &columns())?.table, DIARY);
+    assert_eq!(catalog.insert(120, DIARY, 3, uuid(1), &statistics((1, 3), (9, 14), 0))?.data_file, FileId(0));
+    assert_eq!(catalog.insert(130, DIARY, 2, uuid(2), &statistics((4, 5), (20, 20), 1))?.snapshot.id, SnapshotId(3));
+    assert_eq!(catalog.delete(140, FileId(0), uuid(3), &[1])?.delete_file, FileId(2));
+    assert_eq!(catalog.delete(150, FileId(0), uuid(4), &[0])?.snapshot.change, Change::DeletedFromTable(DIARY));
     Ok(catalog)
 }
 
@@ -99,9 +99,9 @@ fn rows_files_and_times() {
     assert_eq!(catalog.list_columns(SnapshotId(5), DIARY).unwrap(), [1, 2]);
     assert_eq!(catalog.table_by_name(SnapshotId(5), MAIN, "diary"), Ok(DIARY));
     assert_eq!(catalog.table_by_name(SnapshotId(5), MAIN, "Diary").err(), Some(Refusal::NotLive));
-    assert!(matches!(catalog.copy_file(FileId(1)), Ok(File::Data(file)) if file.record_count == 2 && file.row_id_start.0 == 3));
-    assert!(matches!(catalog.copy_file(FileId(3)), Ok(File::Delete(file)) if file.data_file == FileId(0) && file.delete_count == 2));
-    assert_eq!(catalog.copy_file(FileId(3)).unwrap().uuid().path(), "ducklake-00000000-0000-0000-0000-000000000004.parquet");
+    assert!(matches!(catalog.find_file(FileId(1)), Ok(File::Data(file)) if file.record_count == 2 && file.row_id_start.0 == 3));
+    assert!(matches!(catalog.find_file(FileId(3)), Ok(File::Delete(file)) if file.data_file == FileId(0) && file.delete_count == 2));
+    assert_eq!(catalog.find_file(FileId(3)).unwrap().uuid().path(), "ducklake-00000000-0000-0000-0000-000000000004.parquet");
 }
 
 #[test]
@@ -146,8 +146,8 @@ fn a_list_with_readings() {
     list.push_list_columns(SnapshotId(5), DIARY);
     list.push_table_by_name(SnapshotId(5), MAIN, "diary");
     list.push_table_by_name(SnapshotId(5), MAIN, "Diary");
-    list.push_copy_file(FileId(1));
-    list.push_copy_file(FileId(4));
+    list.push_find_file(FileId(1));
+    list.push_find_file(FileId(4));
     let mut catalog = empty(ROOM);
     let mut area = vec![0; catalog.room_for(&list)];
     let given = catalog.play(&list, &mut area)[6..].to_vec();
@@ -162,8 +162,8 @@ fn a_list_with_readings() {
     assert_eq!(given[9..11], [Ok(&[1][..]), Err(Refusal::NoSnapshotByThen)]);
     assert_eq!(given[11..17], [Ok(&[0][..]), Ok(&[]), Ok(&[1]), Ok(&[1, 2]), Ok(&[1]), Err(Refusal::NotLive)]);
     // readings change nothing
-    let words = given[17].unwrap();
-    assert_eq!(catalog.copy_file(FileId(1)), Ok(File::Data(DataFileRecord::read(words))));
+    let words = given[17].unwrap().try_into().unwrap();
+    assert_eq!(catalog.find_file(FileId(1)), Ok(catalog.records().file_of(words)));
     assert_eq!(given[18..], [Err(Refusal::NotLive)]);
     assert_eq!(catalog.into_parts(), play(OwnedTables::with_room(ROOM)).unwrap().into_parts());
 }
@@ -283,7 +283,7 @@ fn refusals_change_nothing() {
     roomy.insert(160, DIARY, 1_048_576, uuid(5), &statistics((1, 1), (1, 1), 0)).unwrap();
     roomy.create_table(160, MAIN, "n".repeat(32), &columns()).unwrap();
     assert_eq!(roomy.list_rows(SnapshotId(6), DIARY).unwrap().len(), 3 + 1_048_576);
-    let sales = roomy.create_schema(170, "sales").unwrap().object;
+    let sales = roomy.create_schema(170, "sales").unwrap().schema;
     assert_eq!(roomy.list_schemas(SnapshotId(8)).unwrap(), [MAIN, sales]);
     assert_eq!(roomy.drop_schema(180, MAIN).err(), Some(Refusal::SchemaNotEmpty));
     roomy.drop_schema(180, sales).unwrap();

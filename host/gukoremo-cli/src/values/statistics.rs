@@ -1,10 +1,8 @@
 //! Statistics of a new file: `price=9..14 nulls=1` is the column `price`, lowest value 9, highest 14, one null. A bound that is left out is missing:
 //! `price=..`.
 
-use super::columns::{type_name, type_range};
 use super::names::{self, Reference};
-use gukoremo::record::ColumnRecord;
-use gukoremo::NewStatistics;
+use gukoremo::{Column, NewStatistics};
 
 #[derive(Clone, Debug, PartialEq, Eq)]
 pub struct Statistics {
@@ -42,11 +40,12 @@ fn bound(text: &str) -> Result<Option<i64>, String> {
 
 /// The first rule that the statistics of a new file break, with the column: "one for each live column by ascending id", and what 'Sound tables' asks of each. The
 /// columns are the table's, with their names; `given` is in the order of the column ids.
-pub fn broken_rule(columns: &[(ColumnRecord, String)], rows: u64, given: &[NewStatistics]) -> Option<String> {
-    if let Some(other) = given.iter().find(|one| columns.iter().all(|(column, _)| column.id != one.column)) {
+pub fn broken_rule(columns: &[Column], rows: u64, given: &[NewStatistics]) -> Option<String> {
+    if let Some(other) = given.iter().find(|one| columns.iter().all(|column| column.id != one.column)) {
         return Some(format!("the table has no column {}", other.column));
     }
-    columns.iter().find_map(|(column, name)| {
+    columns.iter().find_map(|column| {
+        let name = &column.name;
         let mut of_column = given.iter().filter(|one| one.column == column.id);
         match (of_column.next(), of_column.next()) {
             (None, _) => Some(format!("column {name} has no statistics")),
@@ -58,20 +57,20 @@ pub fn broken_rule(columns: &[(ColumnRecord, String)], rows: u64, given: &[NewSt
 
 /// "null_count ≤ record_count, and 0 where nulls aren't allowed. If all rows are null, min and max are missing; else either may be missing. Given values lie in the
 /// type's range, min ≤ max."
-fn broken_in(column: &ColumnRecord, rows: u64, one: &NewStatistics) -> Option<String> {
+fn broken_in(column: &Column, rows: u64, one: &NewStatistics) -> Option<String> {
     let nulls = one.null_count;
     if nulls > rows {
         return Some(format!("nulls={nulls} is above the rows of the file, {rows}"));
     }
-    if nulls > 0 && column.nulls_allowed != 1 {
+    if nulls > 0 && !column.nulls_allowed {
         return Some(format!("nulls={nulls}, where nulls are not allowed"));
     }
     if nulls == rows && (one.min.is_some() || one.max.is_some()) {
         return Some("all rows are null, so that it has no lowest and no highest value".to_string());
     }
-    let range = type_range(column.type_code);
+    let range = column.column_type.range();
     if let Some(value) = [one.min, one.max].into_iter().flatten().find(|value| !range.contains(value)) {
-        return Some(format!("{value} is not in {}, which is {} to {}", type_name(column.type_code), range.start(), range.end()));
+        return Some(format!("{value} is not in {}, which is {} to {}", column.column_type, range.start(), range.end()));
     }
     let above = one.min.zip(one.max).filter(|(min, max)| min > max);
     above.map(|(min, max)| format!("the lowest value, {min}, is above the highest, {max}"))

@@ -3,7 +3,7 @@
 use crate::support::{answer, bytes, diary, gukoremo, text, Chance, Folder};
 use gukoremo::{Catalog, CatalogId, ColumnType, FileId, NewColumn, NewStatistics, OwnedTables, SnapshotId, Uuid};
 use gukoremo_cli::file::Lake;
-use gukoremo_cli::{records, runs};
+use gukoremo_cli::runs;
 use rusqlite::types::Value;
 use rusqlite::{params, Connection, Row};
 
@@ -54,14 +54,13 @@ fn random(chance: &mut Chance) -> Lake {
 
 /// A storage with the catalogue's files: a size and a path each. Which folder a scheduled file is in, the catalogue does not know.
 fn storage(lake: &Lake) -> String {
-    let schema = |id: CatalogId| records::schemas(lake).find(|(schema, _)| schema.id == id).expect("on record").1;
     let folder = |id: CatalogId| {
-        let (table, name) = records::tables(lake).find(|(table, _)| table.id == id).expect("on record");
-        format!("{}/{name}", schema(table.schema))
+        let table = lake.records().table(id).expect("on record");
+        format!("{}/{}", lake.records().schema(table.schema).expect("on record").name, table.name)
     };
-    let data = records::data_files(lake).map(|file| (file.id, folder(file.table), file.uuid));
-    let delete = records::delete_files(lake).map(|file| (file.id, folder(file.table), file.uuid));
-    let scheduled = records::scheduled(lake).map(|file| (file.file, "main/gone".to_string(), file.uuid));
+    let data = lake.records().data_files().map(|file| (file.id, folder(file.table), file.uuid));
+    let delete = lake.records().delete_files().map(|file| (file.id, folder(file.table), file.uuid));
+    let scheduled = lake.records().scheduled().map(|file| (file.file, "main/gone".to_string(), file.uuid));
     let files = data.chain(delete).chain(scheduled);
     files.map(|(id, folder, uuid)| format!("{} {folder}/{}\n", 1000 + id.0, uuid.path())).collect()
 }
@@ -90,14 +89,14 @@ fn published_queries_give_the_same_lists() {
         assert_eq!(names, [22], "\"DuckLake 0.3 uses 22 tables\"");
         assert_eq!(rows(&from, "SELECT value FROM ducklake_metadata WHERE key = 'data_path'", [], |row| row.get::<_, String>(0)), ["s3://shop/"]);
         checked += columns_as_published(&from);
-        for snapshot in records::snapshots(&lake) {
+        for snapshot in lake.records().snapshots() {
             compared += compare(&lake, &from, snapshot.id);
         }
         assert_eq!(
             rows(&from, "SELECT max(snapshot_id) FROM ducklake_snapshot", [], |row| row.get::<_, u64>(0)),
-            [records::latest(&lake).expect("one").id.0]
+            [lake.records().latest().expect("one").id.0]
         );
-        let scheduled: Vec<u64> = records::scheduled(&lake).map(|file| file.file.0).collect();
+        let scheduled: Vec<u64> = lake.records().scheduled().map(|file| file.file.0).collect();
         assert_eq!(
             rows(&from, "SELECT data_file_id FROM ducklake_files_scheduled_for_deletion ORDER BY rowid", [], |row| row.get::<_, u64>(0)),
             scheduled
@@ -129,7 +128,7 @@ fn compare_table(lake: &Lake, from: &Connection, at: SnapshotId, id: u64) -> usi
     let table = CatalogId(id);
     let columns = rows(from, COLUMNS, [at.0, id], |row| row.get::<_, u64>(0));
     assert_eq!(columns, lake.list_columns(at, table).expect("live"));
-    let path = |file: FileId| lake.copy_file(file).expect("on record").uuid().path();
+    let path = |file: FileId| lake.find_file(file).expect("on record").uuid().path();
     let listed = lake.list_files(at, table).expect("live");
     let paths: Vec<(String, Option<String>)> = listed.iter().map(|pair| (path(pair.data_file), pair.delete_file.map(path))).collect();
     assert_eq!(rows(from, FILES, [at.0, id], |row| Ok((row.get(0)?, row.get(1)?))), paths);

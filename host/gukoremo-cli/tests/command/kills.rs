@@ -3,7 +3,6 @@
 use crate::support::{answer, bytes, diary, large, names_in, text, Chance, Folder, COMMAND};
 use gukoremo::{CatalogId, FileId, NewStatistics, Uuid};
 use gukoremo_cli::file::{self, Lake};
-use gukoremo_cli::records;
 use std::os::unix::process::ExitStatusExt;
 use std::path::Path;
 use std::process::{Command, Stdio};
@@ -57,8 +56,8 @@ fn of_files(mut lake: Lake, step: u64) -> Change {
     let time = 1_000_000 + step;
     let uuid = Uuid { high: 9, low: step };
     let uuid_text = format!("00000000-0000-0009-0000-{step:012x}");
-    let next_file = records::latest(&lake).expect("a snapshot").next_file_id.0;
-    let last_file = records::data_files(&lake).last().expect("a file").id.0;
+    let next_file = lake.records().latest().expect("a snapshot").next_file_id.0;
+    let last_file = lake.records().data_files().last().expect("a file").id.0;
     // a data file that came last has no delete file yet
     let untouched = last_file + 1 == next_file;
     match (step % 4, untouched) {
@@ -72,7 +71,7 @@ fn of_files(mut lake: Lake, step: u64) -> Change {
             change(format!("delete --file {last_file} --positions 0,3 --uuid {uuid_text} --time {time}"), lake)
         }
         (2, _) => {
-            let first = records::snapshots(&lake).next().expect("a snapshot").id;
+            let first = lake.records().snapshots().next().expect("a snapshot").id;
             lake.expire(&[first], time).expect("an expiry");
             change(format!("expire {} --time {time}", first.0), lake)
         }
@@ -153,7 +152,7 @@ fn readers_meet_whole_states() {
         std::thread::spawn(move || {
             let (mut last, mut reads) = (0, 0);
             while last < 550 {
-                let latest = records::latest(&file::read(&path).expect("whole")).expect("a snapshot").id.0;
+                let latest = file::read(&path).expect("whole").records().latest().expect("a snapshot").id.0;
                 assert!(latest >= last);
                 last = latest;
                 reads += 1;

@@ -2,9 +2,8 @@
 
 use crate::support::{answer, diary, gukoremo, text, Chance, Folder};
 use gukoremo::{Catalog, CatalogId, ColumnType, NewColumn, NewStatistics, OwnedTables, Uuid};
-use gukoremo_cli::values::columns::{type_range, TYPES};
+use gukoremo_cli::runs;
 use gukoremo_cli::values::statistics::broken_rule;
-use gukoremo_cli::{records, runs};
 
 #[test]
 fn refusals_say_which_why_and_what_to_do() {
@@ -99,18 +98,17 @@ fn names_and_ids() {
 #[test]
 fn broken_rules_of_statistics() {
     let mut lake = Catalog::fresh(OwnedTables::with_room(runs::room(64)), 100).expect("room");
-    let column =
-        |(at, (name, column_type)): (usize, &(&'static str, ColumnType))| NewColumn { name, column_type: *column_type, nulls_allowed: at % 2 == 0 };
-    let new: Vec<NewColumn<'_>> = TYPES.iter().enumerate().map(column).collect();
-    let table = lake.create_table(110, CatalogId(0), "all", &new).expect("a table").object;
-    let columns: Vec<_> = records::columns(&lake).collect();
+    let column = |(at, column_type): (usize, ColumnType)| NewColumn { name: column_type.name(), column_type, nulls_allowed: at % 2 == 0 };
+    let new: Vec<NewColumn<'_>> = ColumnType::ALL.into_iter().enumerate().map(column).collect();
+    let table = lake.create_table(110, CatalogId(0), "all", &new).expect("a table").table;
+    let columns: Vec<_> = lake.records().columns().collect();
     let (tables, counts) = lake.into_parts();
     let mut chance = Chance::new(15);
-    let edges: Vec<i64> = columns.iter().map(|(column, _)| type_range(column.type_code)).flat_map(|range| [*range.start(), *range.end()]).collect();
+    let edges: Vec<i64> = columns.iter().map(|column| column.column_type.range()).flat_map(|range| [*range.start(), *range.end()]).collect();
     let (mut refused, mut accepted) = (0, 0);
     for round in 0..20_000 {
         let rows = 1 + chance.below(3);
-        let mut given: Vec<NewStatistics> = (1..=TYPES.len() as u64)
+        let mut given: Vec<NewStatistics> = (1..=new.len() as u64)
             .map(|column| {
                 let wild = chance.below(12) == 0;
                 let edge = edges[if wild { chance.below(edges.len() as u64) } else { 2 * (column - 1) + chance.below(2) } as usize];

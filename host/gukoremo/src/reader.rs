@@ -1,0 +1,177 @@
+//! The records as they lie in the tables.
+
+use crate::number::{CatalogId, FileId, SnapshotId, NAME_SIZE};
+use crate::outcome::Counts;
+use crate::record::DataFileRecord;
+use crate::records::{Column, DataFile, DeleteFile, File, Scheduled, Schema, Snapshot, Statistics, Table};
+use crate::tables::TablesView;
+
+/// The used records of the tables, in their order: [`Catalog::records`](crate::Catalog::records) gives them.
+///
+/// Nothing is judged here. Any content is read, and no more of it than is there, whatever the counts are; a call's answer or
+/// [`Catalog::first_unsound`](crate::Catalog::first_unsound) says whether the tables are sound.
+///
+/// ```
+/// # use gukoremo::{CatalogId, ColumnType, FileId};
+/// # let catalog = include!(concat!(env!("CARGO_MANIFEST_DIR"), "/src/diary.in"));
+/// // the catalogue of the crate's page
+/// let records = catalog.records();
+/// assert_eq!(records.latest().map(|snapshot| snapshot.change.to_string()), Some("deleted_from_table 1".to_string()));
+/// assert_eq!(records.table(CatalogId(1)).map(|table| table.name), Some("diary".to_string()));
+/// let columns: Vec<(String, ColumnType)> = records.columns_of(CatalogId(1)).map(|column| (column.name, column.column_type)).collect();
+/// assert_eq!(columns, [("item".to_string(), ColumnType::Int64)]);
+/// assert_eq!(records.statistics_of(FileId(0)).next().map(|of_item| (of_item.min, of_item.max)), Some((Some(1), Some(3))));
+/// assert_eq!(records.positions_of(FileId(1)), Some(&[1][..]));
+/// # Ok::<(), gukoremo::Refusal>(())
+/// ```
+#[derive(Clone, Copy, Debug)]
+pub struct Records<'a> {
+    view: TablesView<'a>,
+    counts: Counts,
+}
+
+impl<'a> TablesView<'a> {
+    /// The records of these tables, with the counts of a call on them.
+    ///
+    /// ```
+    /// use gukoremo::{Counts, Lend, OwnedTables};
+    ///
+    /// // more are counted than there are
+    /// let tables = OwnedTables::with_room(Counts::each(2));
+    /// assert_eq!(tables.view().records(Counts::each(9)).snapshots().count(), 2);
+    /// ```
+    pub fn records(self, counts: Counts) -> Records<'a> {
+        Records { view: self, counts }
+    }
+}
+
+/// The used records of a run.
+fn used<'a, const SIZE: usize>(words: &'a [u64], count: usize) -> std::iter::Take<std::slice::Iter<'a, [u64; SIZE]>> {
+    words.as_chunks().0.iter().take(count)
+}
+
+/// The same, each with its name: what stands before the first zero of its place.
+fn named<'a, const SIZE: usize>(words: &'a [u64], names: &'a [u8], count: usize) -> impl Iterator<Item = (&'a [u64; SIZE], String)> + 'a {
+    used(words, count).zip(names.as_chunks::<NAME_SIZE>().0).map(|(words, place)| {
+        let name = place.split(|byte| *byte == 0).next().unwrap_or_default();
+        (words, String::from_utf8_lossy(name).into_owned())
+    })
+}
+
+impl<'a> Records<'a> {
+    /// The retained snapshots, by ascending id.
+    pub fn snapshots(self) -> impl DoubleEndedIterator<Item = Snapshot> + ExactSizeIterator + 'a {
+        used(self.view.snapshots, self.counts.snapshots).map(Snapshot::of)
+    }
+
+    /// The latest snapshot: sound tables have one.
+    pub fn latest(self) -> Option<Snapshot> {
+        self.snapshots().next_back()
+    }
+
+    /// The snapshot of an id.
+    pub fn snapshot(self, id: SnapshotId) -> Option<Snapshot> {
+        self.snapshots().find(|snapshot| snapshot.id == id)
+    }
+
+    /// The schemas, by ascending id.
+    pub fn schemas(self) -> impl Iterator<Item = Schema> + 'a {
+        named(self.view.schemas, self.view.schema_names, self.counts.schemas).map(|(words, name)| Schema::of(words, name))
+    }
+
+    /// The schema of an id.
+    pub fn schema(self, id: CatalogId) -> Option<Schema> {
+        self.schemas().find(|schema| schema.id == id)
+    }
+
+    /// The tables, by ascending id.
+    pub fn tables(self) -> impl Iterator<Item = Table> + 'a {
+        named(self.view.tables, self.view.table_names, self.counts.tables).map(|(words, name)| Table::of(words, name))
+    }
+
+    /// The table of an id.
+    pub fn table(self, id: CatalogId) -> Option<Table> {
+        self.tables().find(|table| table.id == id)
+    }
+
+    /// The columns, by table and ascending id.
+    pub fn columns(self) -> impl Iterator<Item = Column> + 'a {
+        named(self.view.columns, self.view.column_names, self.counts.columns).map(|(words, name)| Column::of(words, name))
+    }
+
+    /// The columns of a table, by ascending id.
+    pub fn columns_of(self, table: CatalogId) -> impl Iterator<Item = Column> + 'a {
+        self.columns().filter(move |column| column.table == table)
+    }
+
+    /// The data files, by ascending id.
+    pub fn data_files(self) -> impl Iterator<Item = DataFile> + 'a {
+        used(self.view.data_files, self.counts.data_files).map(DataFile::of)
+    }
+
+    /// The data file of an id.
+    pub fn data_file(self, id: FileId) -> Option<DataFile> {
+        self.data_files().find(|file| file.id == id)
+    }
+
+    /// The delete files, by ascending id.
+    pub fn delete_files(self) -> impl Iterator<Item = DeleteFile> + 'a {
+        used(self.view.delete_files, self.counts.delete_files).map(DeleteFile::of)
+    }
+
+    /// The delete file of an id.
+    pub fn delete_file(self, id: FileId) -> Option<DeleteFile> {
+        self.delete_files().find(|file| file.id == id)
+    }
+
+    /// The delete files, each with its positions: "the delete files' positions follow each other in delete file order".
+    pub fn deletes(self) -> impl Iterator<Item = (DeleteFile, &'a [u64])> + 'a {
+        let positions = self.view.positions;
+        let mut rest = &positions[..self.counts.positions.min(positions.len())];
+        self.delete_files().map(move |file| {
+            let own;
+            (own, rest) = rest.split_at(rest.len().min(usize::try_from(file.delete_count).unwrap_or(usize::MAX)));
+            (file, own)
+        })
+    }
+
+    /// The positions of a delete file, ascending.
+    pub fn positions_of(self, delete_file: FileId) -> Option<&'a [u64]> {
+        self.deletes().find(|(file, _)| file.id == delete_file).map(|(_, positions)| positions)
+    }
+
+    /// The statistics, by data file and ascending column id.
+    pub fn statistics(self) -> impl Iterator<Item = Statistics> + 'a {
+        used(self.view.statistics, self.counts.statistics).map(Statistics::of)
+    }
+
+    /// The statistics of a data file, by ascending column id.
+    pub fn statistics_of(self, data_file: FileId) -> impl Iterator<Item = Statistics> + 'a {
+        self.statistics().filter(move |of_column| of_column.data_file == data_file)
+    }
+
+    /// The files that a cleanup may hand out, in the order in which they were scheduled.
+    pub fn scheduled(self) -> impl Iterator<Item = Scheduled> + 'a {
+        used(self.view.scheduled, self.counts.scheduled).map(Scheduled::of)
+    }
+
+    /// The file of the words that a lookup answers in a list: a data file where one on record has their id.
+    ///
+    /// ```
+    /// # use gukoremo::{CallList, File, FileId};
+    /// # let mut catalog = include!(concat!(env!("CARGO_MANIFEST_DIR"), "/src/diary.in"));
+    /// // the catalogue of the crate's page
+    /// let mut list = CallList::new();
+    /// list.push_find_file(FileId(1));
+    /// let mut area = [0; 8];
+    /// let given = catalog.play(&list, &mut area)[0]?.try_into().expect("a record");
+    /// assert!(matches!(catalog.records().file_of(given), File::Delete(file) if file.data_file == FileId(0)));
+    /// # Ok::<(), gukoremo::Refusal>(())
+    /// ```
+    pub fn file_of(self, words: &[u64; DataFileRecord::SIZE]) -> File {
+        match self.data_file(FileId(words[DataFileRecord::ID])) {
+            Some(_) => File::Data(DataFile::of(words)),
+            None => File::Delete(DeleteFile::of(words)),
+        }
+    }
+}
