@@ -5,10 +5,20 @@
 //! and readings is played as one call. [`Records`] are what lies in the tables, as values: snapshots, names, column types, statistics, positions.
 //!
 //! ```
-//! # use gukoremo::{CatalogId, RowId, SnapshotId};
-//! let catalog =
-#![doc = include_str!("diary.in")]
-//! ;
+//! use gukoremo::{Catalog, CatalogId, ColumnType, Counts, FileId, NewColumn, NewStatistics, OwnedTables, RowId, SnapshotId, Uuid};
+//!
+//! // room for eight records of each kind; the catalogue begins with the schema `main`, id 0
+//! let mut catalog = Catalog::fresh(OwnedTables::with_room(Counts::each(8)), 100)?;
+//!
+//! // a table, id 1, of one column
+//! let columns = [NewColumn { name: "item", column_type: ColumnType::Int64, nulls_allowed: false }];
+//! catalog.create_table(110, CatalogId(0), "diary", &columns)?;
+//!
+//! // a data file, id 0, of three rows; and a delete file, id 1, of the second of them
+//! let statistics = [NewStatistics { column: 1, null_count: 0, min: Some(1), max: Some(3) }];
+//! catalog.insert(120, CatalogId(1), 3, Uuid::from_u128(1), &statistics)?;
+//! catalog.delete(130, FileId(0), Uuid::from_u128(2), &[1])?;
+//!
 //! // the rows of the table before the delete, and after it
 //! assert_eq!(catalog.list_rows(SnapshotId(2), CatalogId(1))?, [0, 1, 2].map(RowId));
 //! assert_eq!(catalog.list_rows(SnapshotId(3), CatalogId(1))?, [0, 2].map(RowId));
@@ -19,14 +29,15 @@
 //!
 //! # Time and stack
 //!
-//! Each call first checks the tables, whatever they hold; a list of calls is checked once. A call takes no heap. It takes at most 1 MiB of the stack: 869 KiB
-//! were measured for a list on tables at the limits. So it has room on a thread of Rust's usual 2 MiB; give one with a smaller stack more.
+//! Each call first checks the tables; a list checks them once, where they are sound and left so by calls. The compiled calls take no heap, and at most 1 MiB
+//! of the stack: 869 KiB were measured, for a list on tables at the limits. That has room on a thread with Rust's usual 2 MiB, and not on a much smaller one.
 //!
 //! # Levels
 //!
 //! [`raw`] has the same calls with every argument and the whole outcome, answer area and all. All that is unsafe stands there. [`number`], [`outcome`],
 //! [`record`] and [`line`](mod@line) are the layout of the tables and the numbers, included from the sources that the proofs are about.
 #![deny(unsafe_code)]
+#![warn(missing_docs)]
 
 mod answers;
 mod arguments;
@@ -34,20 +45,46 @@ mod catalog;
 mod change;
 mod column_type;
 mod ids;
-/// The lines of 'Sound tables' by number: the source that the proofs are about.
+/// The lines of document 01's 'Sound tables' by number: [`Line`] has them as values. `SOUND` is none of them.
+///
+/// This is the source that the proofs are about, whose comments are no doc comments.
+#[allow(missing_docs)]
 #[path = "../../../crates/soundness/src/line.rt"]
 pub mod line;
 mod list;
-/// Numbers, limits, names of sizes: the same.
+/// Ids, limits and sizes.
+///
+/// | constant | what it is |
+/// |---|---|
+/// | `ABSENT` | the word of an end that is not set, and of a delete file that is not there |
+/// | `NUMBER_LIMIT` | ids, next ids, row numbers, column orders and schema versions are at most this: 2^62 |
+/// | `TABLE_LIMIT` | a table uses at most this many records |
+/// | `POSITION_LIMIT` | all delete files together have at most this many positions |
+/// | `RECORD_COUNT_LIMIT` | a data file has at most this many rows |
+/// | `COLUMN_LIMIT` | a table has at most this many live columns |
+/// | `NAME_SIZE` | the bytes of a name's place |
+/// | `COLUMN_ARGUMENT_SIZE`, `STATISTICS_ARGUMENT_SIZE` | the words of a new column, and of new statistics |
+/// | `HANDED_SIZE` | the words of a file that a cleanup hands out |
+///
+/// This is the source that the proofs are about, whose comments are no doc comments.
+#[allow(missing_docs)]
 #[path = "../../../crates/layout/src/number.rt"]
 pub mod number;
-/// Counts, outcomes, the refusals' numbers: the same.
+/// Counts, outcomes, and the refusals by number: [`Refusal`] has them as values. `ACCEPTED` is none of them.
+///
+/// This is the source that the proofs are about, whose comments are no doc comments.
+#[allow(missing_docs)]
 #[path = "../../../crates/layout/src/outcome.rt"]
 pub mod outcome;
 mod plain;
 pub mod raw;
 mod reader;
-/// The records and the words of their fields: the same.
+/// The records as they lie in the tables: of each the words that it has (`SIZE`), and which word a field is; and the kinds of changes by number. [`Records`]
+/// reads them, as [`Snapshot`], [`Schema`], [`Table`], [`Column`], [`DataFile`], [`DeleteFile`], [`Statistics`] and [`Scheduled`], where each field is
+/// described; [`Change`] has the kinds as values.
+///
+/// This is the source that the proofs are about, whose comments are no doc comments.
+#[allow(missing_docs)]
 #[path = "../../../crates/layout/src/record.rt"]
 pub mod record;
 mod records;
@@ -64,9 +101,57 @@ pub use catalog::{Catalog, ANSWER_LIMIT};
 pub use change::Change;
 pub use column_type::{ColumnType, UnknownType};
 pub use list::CallList;
-pub use number::{CatalogId, FileId, RowId, SnapshotId};
-pub use outcome::{Counts, Outcome};
+/// The id of a schema or of a table: they share one counter.
+///
+/// ```
+/// assert_eq!(format!("{0} {0:?}", gukoremo::CatalogId(3)), "3 CatalogId(3)");
+/// ```
+#[doc(inline)]
+pub use number::CatalogId;
+/// The id of a data file or of a delete file: they share one counter.
+///
+/// ```
+/// assert!(gukoremo::FileId(2) < gukoremo::FileId(10));
+/// ```
+#[doc(inline)]
+pub use number::FileId;
+/// The number of a row in its table.
+///
+/// ```
+/// assert_eq!([0, 2].map(gukoremo::RowId).map(|row| row.0), [0, 2]);
+/// ```
+#[doc(inline)]
+pub use number::RowId;
+/// The id of a snapshot.
+///
+/// ```
+/// assert_eq!(format!("{0} {0:?}", gukoremo::SnapshotId(3)), "3 SnapshotId(3)");
+/// ```
+#[doc(inline)]
+pub use number::SnapshotId;
+/// How many records of each table, and how many positions, are used, or have places: document 01's catalogue record.
+///
+/// ```
+/// use gukoremo::Counts;
+///
+/// assert_eq!(Counts { positions: 0, ..Counts::each(4) }.scheduled, 4);
+/// ```
+#[doc(inline)]
+pub use outcome::Counts;
+/// What a call of [`raw`] gives: 0 or the refusal's number, its place, the words of the answer, and the counts after it. [`Refusal::judge`] takes it.
+#[doc(inline)]
+pub use outcome::Outcome;
 pub use reader::Records;
+/// The UUID of a file, as two words. It is shown and read as the `uuid` crate does, and made of and into a `uuid::Uuid`.
+///
+/// ```
+/// use gukoremo::Uuid;
+///
+/// let uuid: Uuid = "0198c2a4-0f3e-7abc-8def-0123456789ab".parse()?;
+/// assert_eq!(uuid.to_string(), "0198c2a4-0f3e-7abc-8def-0123456789ab");
+/// # Ok::<(), Box<dyn std::error::Error>>(())
+/// ```
+#[doc(inline)]
 pub use record::Uuid;
 pub use records::{Column, DataFile, DeleteFile, File, Life, Scheduled, Schema, Snapshot, Statistics, Table};
 pub use refusal::Refusal;

@@ -256,7 +256,7 @@ impl Scheduled {
     }
 }
 
-/// A file on record.
+/// A file on record. Examples go on from [the crate's page](crate).
 #[derive(Clone, Copy, Debug, PartialEq, Eq, Hash)]
 pub enum File {
     /// A data file.
@@ -267,6 +267,13 @@ pub enum File {
 
 impl File {
     /// Its id.
+    ///
+    /// ```
+    /// # use gukoremo::{FileId};
+    /// # let catalog = include!(concat!(env!("CARGO_MANIFEST_DIR"), "/src/diary.in"));
+    /// assert_eq!(catalog.find_file(FileId(1))?.id(), FileId(1));
+    /// # Ok::<(), gukoremo::Refusal>(())
+    /// ```
     pub fn id(&self) -> FileId {
         match self {
             File::Data(file) => file.id,
@@ -275,6 +282,13 @@ impl File {
     }
 
     /// The table that it is of.
+    ///
+    /// ```
+    /// # use gukoremo::{CatalogId, FileId};
+    /// # let catalog = include!(concat!(env!("CARGO_MANIFEST_DIR"), "/src/diary.in"));
+    /// assert_eq!(catalog.find_file(FileId(1))?.table(), CatalogId(1));
+    /// # Ok::<(), gukoremo::Refusal>(())
+    /// ```
     pub fn table(&self) -> CatalogId {
         match self {
             File::Data(file) => file.table,
@@ -283,6 +297,13 @@ impl File {
     }
 
     /// Its life.
+    ///
+    /// ```
+    /// # use gukoremo::{FileId, SnapshotId};
+    /// # let catalog = include!(concat!(env!("CARGO_MANIFEST_DIR"), "/src/diary.in"));
+    /// assert_eq!(catalog.find_file(FileId(1))?.life().begin, SnapshotId(3));
+    /// # Ok::<(), gukoremo::Refusal>(())
+    /// ```
     pub fn life(&self) -> Life {
         match self {
             File::Data(file) => file.life,
@@ -291,6 +312,13 @@ impl File {
     }
 
     /// What its path is made of.
+    ///
+    /// ```
+    /// # use gukoremo::{FileId};
+    /// # let catalog = include!(concat!(env!("CARGO_MANIFEST_DIR"), "/src/diary.in"));
+    /// assert_eq!(catalog.find_file(FileId(1))?.uuid().path(), "ducklake-00000000-0000-0000-0000-000000000002.parquet");
+    /// # Ok::<(), gukoremo::Refusal>(())
+    /// ```
     pub fn uuid(&self) -> Uuid {
         match self {
             File::Data(file) => file.uuid,

@@ -341,3 +341,12 @@ fn many_rows() {
     assert_eq!(lake.list_rows(latest, CatalogId(7)).expect_err("no such table"), Refusal::NotLive);
     assert_eq!(lake.list_files(latest, DIARY).expect("files").len(), FILES);
 }
+
+/// The examples of the methods go on from the catalogue of the crate's page.
+#[test]
+fn the_page_makes_the_catalogue_of_the_examples() {
+    let page = include_str!("../src/lib.rs");
+    let lines: Vec<&str> =
+        include_str!("../src/diary.in").lines().map(str::trim).filter(|line| line.starts_with("let ") || line.starts_with("catalog.")).collect();
+    assert!(lines.len() > 4 && lines.iter().all(|line| page.contains(&format!("//! {line}\n"))), "{lines:?}");
+}
