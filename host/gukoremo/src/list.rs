@@ -337,7 +337,7 @@ impl CallList {
     /// The answer is the snapshot, one word.
     ///
     /// ```
-    /// # use gukoremo::{CallList};
+    /// # use gukoremo::CallList;
     /// # let mut catalog = include!(concat!(env!("CARGO_MANIFEST_DIR"), "/src/diary.in"));
     /// let mut list = CallList::new();
     /// list.push_snapshot_by_time(125);

@@ -2,7 +2,7 @@
 
 use crate::number::{CatalogId, FileId, SnapshotId, NAME_SIZE};
 use crate::outcome::Counts;
-use crate::record::DataFileRecord;
+use crate::record::{ColumnRecord, DataFileRecord, SchemaRecord, TableRecord};
 use crate::records::{Column, DataFile, DeleteFile, File, Scheduled, Schema, Snapshot, Statistics, Table};
 use crate::tables::TablesView;
 
@@ -50,19 +50,18 @@ fn used<'a, const SIZE: usize>(words: &'a [u64], count: usize) -> std::iter::Tak
     words.as_chunks().0.iter().take(count)
 }
 
-/// The same, each with its name: what stands before the first zero of its place.
-fn named<'a, const SIZE: usize>(words: &'a [u64], names: &'a [u8], count: usize) -> impl Iterator<Item = (&'a [u64; SIZE], String)> + 'a {
-    used(words, count).zip(names.as_chunks::<NAME_SIZE>().0).map(|(words, place)| {
-        let name = place.split(|byte| *byte == 0).next().unwrap_or_default();
-        (words, String::from_utf8_lossy(name).into_owned())
-    })
+/// A record with the place of its name.
+type Named<'a, const SIZE: usize> = (&'a [u64; SIZE], &'a [u8; NAME_SIZE]);
+
+fn named<'a, const SIZE: usize>(words: &'a [u64], names: &'a [u8], count: usize) -> impl Iterator<Item = Named<'a, SIZE>> + 'a {
+    used(words, count).zip(names.as_chunks().0)
 }
 
 impl<'a> Records<'a> {
     /// The retained snapshots, by ascending id.
     ///
     /// ```
-    /// # use gukoremo::{SnapshotId};
+    /// # use gukoremo::SnapshotId;
     /// # let catalog = include!(concat!(env!("CARGO_MANIFEST_DIR"), "/src/diary.in"));
     /// let times: Vec<u64> = catalog.records().snapshots().map(|snapshot| snapshot.time).collect();
     /// assert_eq!(times, [100, 110, 120, 130]);
@@ -75,7 +74,7 @@ impl<'a> Records<'a> {
     /// The latest snapshot: sound tables have one.
     ///
     /// ```
-    /// # use gukoremo::{SnapshotId};
+    /// # use gukoremo::SnapshotId;
     /// # let catalog = include!(concat!(env!("CARGO_MANIFEST_DIR"), "/src/diary.in"));
     /// assert_eq!(catalog.records().latest().map(|snapshot| snapshot.id), Some(SnapshotId(3)));
     /// # Ok::<(), gukoremo::Refusal>(())
@@ -87,7 +86,7 @@ impl<'a> Records<'a> {
     /// The snapshot of an id.
     ///
     /// ```
-    /// # use gukoremo::{SnapshotId};
+    /// # use gukoremo::SnapshotId;
     /// # let catalog = include!(concat!(env!("CARGO_MANIFEST_DIR"), "/src/diary.in"));
     /// assert_eq!(catalog.records().snapshot(SnapshotId(2)).map(|snapshot| snapshot.time), Some(120));
     /// # Ok::<(), gukoremo::Refusal>(())
@@ -104,19 +103,19 @@ impl<'a> Records<'a> {
     /// # Ok::<(), gukoremo::Refusal>(())
     /// ```
     pub fn schemas(self) -> impl Iterator<Item = Schema> + 'a {
-        named(self.view.schemas, self.view.schema_names, self.counts.schemas).map(|(words, name)| Schema::of(words, name))
+        self.named_schemas().map(|(words, place)| Schema::of(words, place))
     }
 
     /// The schema of an id.
     ///
     /// ```
-    /// # use gukoremo::{CatalogId};
+    /// # use gukoremo::CatalogId;
     /// # let catalog = include!(concat!(env!("CARGO_MANIFEST_DIR"), "/src/diary.in"));
     /// assert_eq!(catalog.records().schema(CatalogId(0)).map(|schema| schema.name), Some("main".to_string()));
     /// # Ok::<(), gukoremo::Refusal>(())
     /// ```
     pub fn schema(self, id: CatalogId) -> Option<Schema> {
-        self.schemas().find(|schema| schema.id == id)
+        self.named_schemas().find(|(words, _)| words[SchemaRecord::ID] == id.0).map(|(words, place)| Schema::of(words, place))
     }
 
     /// The tables, by ascending id.
@@ -127,7 +126,7 @@ impl<'a> Records<'a> {
     /// # Ok::<(), gukoremo::Refusal>(())
     /// ```
     pub fn tables(self) -> impl Iterator<Item = Table> + 'a {
-        named(self.view.tables, self.view.table_names, self.counts.tables).map(|(words, name)| Table::of(words, name))
+        self.named_tables().map(|(words, place)| Table::of(words, place))
     }
 
     /// The table of an id.
@@ -139,7 +138,7 @@ impl<'a> Records<'a> {
     /// # Ok::<(), gukoremo::Refusal>(())
     /// ```
     pub fn table(self, id: CatalogId) -> Option<Table> {
-        self.tables().find(|table| table.id == id)
+        self.named_tables().find(|(words, _)| words[TableRecord::ID] == id.0).map(|(words, place)| Table::of(words, place))
     }
 
     /// The columns, by table and ascending id.
@@ -150,7 +149,7 @@ impl<'a> Records<'a> {
     /// # Ok::<(), gukoremo::Refusal>(())
     /// ```
     pub fn columns(self) -> impl Iterator<Item = Column> + 'a {
-        named(self.view.columns, self.view.column_names, self.counts.columns).map(|(words, name)| Column::of(words, name))
+        self.named_columns().map(|(words, place)| Column::of(words, place))
     }
 
     /// The columns of a table, by ascending id.
@@ -163,7 +162,8 @@ impl<'a> Records<'a> {
     /// # Ok::<(), gukoremo::Refusal>(())
     /// ```
     pub fn columns_of(self, table: CatalogId) -> impl Iterator<Item = Column> + 'a {
-        self.columns().filter(move |column| column.table == table)
+        let of_table = self.named_columns().filter(move |(words, _)| words[ColumnRecord::TABLE] == table.0);
+        of_table.map(|(words, place)| Column::of(words, place))
     }
 
     /// The data files, by ascending id.
@@ -180,7 +180,7 @@ impl<'a> Records<'a> {
     /// The data file of an id.
     ///
     /// ```
-    /// # use gukoremo::{FileId};
+    /// # use gukoremo::FileId;
     /// # let catalog = include!(concat!(env!("CARGO_MANIFEST_DIR"), "/src/diary.in"));
     /// let file = catalog.records().data_file(FileId(0)).expect("on record");
     /// assert_eq!((file.record_count, file.life.end), (3, None));
@@ -193,7 +193,7 @@ impl<'a> Records<'a> {
     /// The delete files, by ascending id.
     ///
     /// ```
-    /// # use gukoremo::{FileId};
+    /// # use gukoremo::FileId;
     /// # let catalog = include!(concat!(env!("CARGO_MANIFEST_DIR"), "/src/diary.in"));
     /// assert!(catalog.records().delete_files().all(|file| file.data_file == FileId(0)));
     /// # Ok::<(), gukoremo::Refusal>(())
@@ -205,7 +205,7 @@ impl<'a> Records<'a> {
     /// The delete file of an id.
     ///
     /// ```
-    /// # use gukoremo::{FileId};
+    /// # use gukoremo::FileId;
     /// # let catalog = include!(concat!(env!("CARGO_MANIFEST_DIR"), "/src/diary.in"));
     /// assert_eq!(catalog.records().delete_file(FileId(1)).map(|file| file.delete_count), Some(1));
     /// # Ok::<(), gukoremo::Refusal>(())
@@ -236,7 +236,7 @@ impl<'a> Records<'a> {
     /// The positions of a delete file, ascending.
     ///
     /// ```
-    /// # use gukoremo::{FileId};
+    /// # use gukoremo::FileId;
     /// # let catalog = include!(concat!(env!("CARGO_MANIFEST_DIR"), "/src/diary.in"));
     /// assert_eq!(catalog.records().positions_of(FileId(1)), Some(&[1][..]));
     /// # Ok::<(), gukoremo::Refusal>(())
@@ -259,7 +259,7 @@ impl<'a> Records<'a> {
     /// The statistics of a data file, by ascending column id.
     ///
     /// ```
-    /// # use gukoremo::{FileId};
+    /// # use gukoremo::FileId;
     /// # let catalog = include!(concat!(env!("CARGO_MANIFEST_DIR"), "/src/diary.in"));
     /// let bounds: Vec<_> = catalog.records().statistics_of(FileId(0)).map(|of_column| (of_column.min, of_column.max)).collect();
     /// assert_eq!(bounds, [(Some(1), Some(3))]);
@@ -301,5 +301,19 @@ impl<'a> Records<'a> {
             Some(_) => File::Data(DataFile::of(words)),
             None => File::Delete(DeleteFile::of(words)),
         }
+    }
+
+    // Before a name is made text
+
+    fn named_schemas(self) -> impl Iterator<Item = Named<'a, { SchemaRecord::SIZE }>> + 'a {
+        named(self.view.schemas, self.view.schema_names, self.counts.schemas)
+    }
+
+    fn named_tables(self) -> impl Iterator<Item = Named<'a, { TableRecord::SIZE }>> + 'a {
+        named(self.view.tables, self.view.table_names, self.counts.tables)
+    }
+
+    fn named_columns(self) -> impl Iterator<Item = Named<'a, { ColumnRecord::SIZE }>> + 'a {
+        named(self.view.columns, self.view.column_names, self.counts.columns)
     }
 }

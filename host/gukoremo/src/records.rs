@@ -2,7 +2,7 @@
 
 use crate::change::Change;
 use crate::column_type::ColumnType;
-use crate::number::{CatalogId, FileId, RowId, SnapshotId, ABSENT};
+use crate::number::{CatalogId, FileId, RowId, SnapshotId, ABSENT, NAME_SIZE};
 use crate::record::{
     ColumnRecord, DataFileRecord, DeleteFileRecord, ScheduledRecord, SchemaRecord, SnapshotRecord, StatisticsRecord, TableRecord, Uuid,
 };
@@ -38,6 +38,12 @@ impl Life {
     pub(crate) fn of(begin: u64, end: u64) -> Life {
         Life { begin: SnapshotId(begin), end: (end != ABSENT).then_some(SnapshotId(end)) }
     }
+}
+
+/// What stands before the first zero of a name's place.
+fn name(place: &[u8; NAME_SIZE]) -> String {
+    let name = place.split(|byte| *byte == 0).next().unwrap_or_default();
+    String::from_utf8_lossy(name).into_owned()
 }
 
 /// A snapshot.
@@ -82,8 +88,8 @@ pub struct Schema {
 }
 
 impl Schema {
-    pub(crate) fn of(words: &[u64; SchemaRecord::SIZE], name: String) -> Schema {
-        Schema { id: CatalogId(words[SchemaRecord::ID]), life: Life::of(words[SchemaRecord::BEGIN], words[SchemaRecord::END]), name }
+    pub(crate) fn of(words: &[u64; SchemaRecord::SIZE], place: &[u8; NAME_SIZE]) -> Schema {
+        Schema { id: CatalogId(words[SchemaRecord::ID]), life: Life::of(words[SchemaRecord::BEGIN], words[SchemaRecord::END]), name: name(place) }
     }
 }
 
@@ -103,13 +109,13 @@ pub struct Table {
 }
 
 impl Table {
-    pub(crate) fn of(words: &[u64; TableRecord::SIZE], name: String) -> Table {
+    pub(crate) fn of(words: &[u64; TableRecord::SIZE], place: &[u8; NAME_SIZE]) -> Table {
         Table {
             id: CatalogId(words[TableRecord::ID]),
             life: Life::of(words[TableRecord::BEGIN], words[TableRecord::END]),
             schema: CatalogId(words[TableRecord::SCHEMA]),
             next_row_id: RowId(words[TableRecord::NEXT_ROW_ID]),
-            name,
+            name: name(place),
         }
     }
 }
@@ -134,7 +140,7 @@ pub struct Column {
 }
 
 impl Column {
-    pub(crate) fn of(words: &[u64; ColumnRecord::SIZE], name: String) -> Column {
+    pub(crate) fn of(words: &[u64; ColumnRecord::SIZE], place: &[u8; NAME_SIZE]) -> Column {
         Column {
             id: words[ColumnRecord::ID],
             table: CatalogId(words[ColumnRecord::TABLE]),
@@ -142,7 +148,7 @@ impl Column {
             order: words[ColumnRecord::ORDER],
             column_type: ColumnType::of(words[ColumnRecord::TYPE_CODE]),
             nulls_allowed: words[ColumnRecord::NULLS_ALLOWED] == 1,
-            name,
+            name: name(place),
         }
     }
 }
@@ -269,7 +275,7 @@ impl File {
     /// Its id.
     ///
     /// ```
-    /// # use gukoremo::{FileId};
+    /// # use gukoremo::FileId;
     /// # let catalog = include!(concat!(env!("CARGO_MANIFEST_DIR"), "/src/diary.in"));
     /// assert_eq!(catalog.find_file(FileId(1))?.id(), FileId(1));
     /// # Ok::<(), gukoremo::Refusal>(())
@@ -314,7 +320,7 @@ impl File {
     /// What its path is made of.
     ///
     /// ```
-    /// # use gukoremo::{FileId};
+    /// # use gukoremo::FileId;
     /// # let catalog = include!(concat!(env!("CARGO_MANIFEST_DIR"), "/src/diary.in"));
     /// assert_eq!(catalog.find_file(FileId(1))?.uuid().path(), "ducklake-00000000-0000-0000-0000-000000000002.parquet");
     /// # Ok::<(), gukoremo::Refusal>(())
