@@ -122,6 +122,10 @@ impl TablesView<'_> {
 impl OwnedTables {
     /// Tables with places for this many records of each kind, and this many positions.
     ///
+    /// # Panics
+    ///
+    /// Where a run would be longer than any [`Vec`].
+    ///
     /// ```
     /// use gukoremo::{Catalog, Counts, OwnedTables};
     ///
@@ -138,6 +142,10 @@ impl OwnedTables {
     /// Gives the tables places for this many records of each kind, and this many positions. Content stays where it is; where a run becomes shorter, what was
     /// behind its end is gone.
     ///
+    /// # Panics
+    ///
+    /// Where a run would be longer than any [`Vec`].
+    ///
     /// ```
     /// use gukoremo::{Catalog, Counts, OwnedTables, Refusal};
     ///
@@ -151,17 +159,17 @@ impl OwnedTables {
     /// # Ok::<(), Refusal>(())
     /// ```
     pub fn resize(&mut self, room: Counts) {
-        self.snapshots.resize(room.snapshots * SnapshotRecord::SIZE, 0);
-        self.schemas.resize(room.schemas * SchemaRecord::SIZE, 0);
-        self.schema_names.resize(room.schemas * NAME_SIZE, 0);
-        self.tables.resize(room.tables * TableRecord::SIZE, 0);
-        self.table_names.resize(room.tables * NAME_SIZE, 0);
-        self.columns.resize(room.columns * ColumnRecord::SIZE, 0);
-        self.column_names.resize(room.columns * NAME_SIZE, 0);
-        self.data_files.resize(room.data_files * DataFileRecord::SIZE, 0);
-        self.delete_files.resize(room.delete_files * DeleteFileRecord::SIZE, 0);
+        self.snapshots.resize(room.snapshots.saturating_mul(SnapshotRecord::SIZE), 0);
+        self.schemas.resize(room.schemas.saturating_mul(SchemaRecord::SIZE), 0);
+        self.schema_names.resize(room.schemas.saturating_mul(NAME_SIZE), 0);
+        self.tables.resize(room.tables.saturating_mul(TableRecord::SIZE), 0);
+        self.table_names.resize(room.tables.saturating_mul(NAME_SIZE), 0);
+        self.columns.resize(room.columns.saturating_mul(ColumnRecord::SIZE), 0);
+        self.column_names.resize(room.columns.saturating_mul(NAME_SIZE), 0);
+        self.data_files.resize(room.data_files.saturating_mul(DataFileRecord::SIZE), 0);
+        self.delete_files.resize(room.delete_files.saturating_mul(DeleteFileRecord::SIZE), 0);
         self.positions.resize(room.positions, 0);
-        self.statistics.resize(room.statistics * StatisticsRecord::SIZE, 0);
-        self.scheduled.resize(room.scheduled * ScheduledRecord::SIZE, 0);
+        self.statistics.resize(room.statistics.saturating_mul(StatisticsRecord::SIZE), 0);
+        self.scheduled.resize(room.scheduled.saturating_mul(ScheduledRecord::SIZE), 0);
     }
 }
