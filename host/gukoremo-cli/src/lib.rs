@@ -1,10 +1,11 @@
 //! The command `gukoremo`: a DuckLake 0.3 snapshot catalogue in a file, over the proved calls of `host/gukoremo`.
 //!
 //! What a catalogue does stands in the calls. Here are the words of the command (`arguments`, `values`), the file (`format`, `file`, `lock`, `beside`,
-//! `rights`), readings (`source`, `ask`), answers (`list`) and refusals in full (`refused`); a file for each sort of command. A library, so that tests reach
+//! `rights`), readings (`source`, `ask`), changes (`changes`), answers (`list`, `json`) and refusals in full (`refused`); a file for each sort of command. A library, so that tests reach
 //! all of it; `main.rs` is the command.
 #![forbid(unsafe_code)]
 
+pub mod apply;
 pub mod arguments;
 pub mod ask;
 pub mod beside;
@@ -17,6 +18,7 @@ pub mod export;
 pub mod failure;
 pub mod file;
 pub mod format;
+pub mod json;
 pub mod list;
 pub mod lock;
 pub mod manual;
@@ -24,6 +26,7 @@ pub mod play;
 pub mod readings;
 pub mod refused;
 pub mod rights;
+pub mod rooms;
 pub mod runs;
 pub mod setup;
 pub mod source;
@@ -61,11 +64,14 @@ pub fn main() -> ExitCode {
 
 fn run(name: &str, given: &ArgMatches) -> Result<u8, Failure> {
     match name {
+        "apply" => apply::run(given),
         "check" => check::run(given),
         "diff" => diff::run(given),
         "export" => export::run(given),
+        "init" => rooms::init(given),
         "play" => play::run(given),
         "man" | "completions" => setup::run(given),
+        "room" => rooms::room(given),
         "snapshots" | "schemas" | "tables" | "columns" | "files" | "rows" | "at" | "lookup" | "scheduled" => readings::run(name, given),
         _ => changes::run(name, given),
     }

@@ -1,6 +1,7 @@
 //! Answers: a list as a table for a terminal, as CSV or as JSON; a change as a sentence, or as one record of these.
 
 use crate::failure::Failure;
+use crate::json;
 use gukoremo::SnapshotId;
 use std::fs::{self, File};
 use std::io::{self, Read, Write};
@@ -17,10 +18,16 @@ pub enum Form {
 #[derive(Clone, Debug, PartialEq, Eq)]
 pub enum Cell {
     Number(u64),
+    Signed(i64),
     Flag(bool),
     Text(String),
     Nothing,
+    Many(Vec<Cell>),
+    Record(Fields),
 }
+
+/// Names with their values, in order.
+pub type Fields = Vec<(&'static str, Cell)>;
 
 impl Cell {
     /// The end of a life; nothing where it is open.
@@ -28,45 +35,21 @@ impl Cell {
         end.map_or(Cell::Nothing, |end| Cell::Number(end.0))
     }
 
+    pub fn numbers(numbers: &[u64]) -> Cell {
+        Cell::Many(numbers.iter().copied().map(Cell::Number).collect())
+    }
+
     pub fn plain(&self) -> String {
         match self {
             Cell::Number(number) => number.to_string(),
+            Cell::Signed(number) => number.to_string(),
             Cell::Flag(flag) => flag.to_string(),
             Cell::Text(text) => text.clone(),
             Cell::Nothing => String::new(),
+            Cell::Many(cells) => cells.iter().map(Cell::plain).collect::<Vec<String>>().join(" "),
+            Cell::Record(fields) => fields.iter().map(|(name, cell)| format!("{name} {}", cell.plain())).collect::<Vec<String>>().join(", "),
         }
     }
-
-    fn csv(&self) -> String {
-        let plain = self.plain();
-        match plain.contains([',', '"', '\n', '\r']) {
-            true => format!("\"{}\"", plain.replace('"', "\"\"")),
-            false => plain,
-        }
-    }
-
-    fn json(&self) -> String {
-        match self {
-            Cell::Text(text) => quoted(text),
-            Cell::Nothing => "null".to_string(),
-            _ => self.plain(),
-        }
-    }
-}
-
-/// A JSON string.
-fn quoted(text: &str) -> String {
-    let mut quoted = String::from("\"");
-    for character in text.chars() {
-        match character {
-            '"' => quoted.push_str("\\\""),
-            '\\' => quoted.push_str("\\\\"),
-            control if control < ' ' => quoted.push_str(&format!("\\u{:04x}", control as u32)),
-            other => quoted.push(other),
-        }
-    }
-    quoted.push('"');
-    quoted
 }
 
 pub struct List {
@@ -85,20 +68,7 @@ impl List {
         output(|out| self.write(form, out))
     }
 
-    /// Writes the list to where it stays before anything is done about it: a file is synced, and an output that is closed is an error. Gives why it could not.
-    pub fn hand_out(&self, form: Form) -> Result<(), String> {
-        let says = |error: io::Error| format!("the system says: {error}");
-        if is_closed(&standard_output().map_err(says)?) {
-            return Err("the standard output is closed".to_string());
-        }
-        let out = written(|out| self.write(form, out)).map_err(says)?;
-        match out.metadata() {
-            Ok(of_file) if of_file.is_file() => out.sync_all().map_err(says),
-            _ => Ok(()),
-        }
-    }
-
-    fn write(&self, form: Form, out: &mut dyn Write) -> io::Result<()> {
+    pub fn write(&self, form: Form, out: &mut dyn Write) -> io::Result<()> {
         match form {
             Form::Terminal => self.terminal(out),
             Form::Csv => self.csv(out),
@@ -107,21 +77,15 @@ impl List {
     }
 
     fn csv(&self, out: &mut dyn Write) -> io::Result<()> {
-        writeln!(out, "{}", self.columns.join(","))?;
-        for row in &self.rows {
-            let cells: Vec<String> = row.iter().map(Cell::csv).collect();
-            writeln!(out, "{}", cells.join(","))?;
-        }
-        Ok(())
+        let mut csv = csv::Writer::from_writer(out);
+        csv.write_record(&self.columns)?;
+        self.rows.iter().try_for_each(|row| csv.write_record(row.iter().map(Cell::plain)))?;
+        csv.flush()
     }
 
     fn json(&self, out: &mut dyn Write) -> io::Result<()> {
-        writeln!(out, "[")?;
-        for (at, row) in self.rows.iter().enumerate() {
-            let comma = if at + 1 < self.rows.len() { "," } else { "" };
-            writeln!(out, "  {}{comma}", object(&self.columns, row))?;
-        }
-        writeln!(out, "]")
+        let records = self.rows.iter().map(|row| Cell::Record(self.columns.iter().copied().zip(row.iter().cloned()).collect()));
+        json::write_lines(records, out)
     }
 
     /// Columns as wide as what stands in them, numbers to the right.
@@ -129,7 +93,8 @@ impl List {
         let shown: Vec<Vec<String>> = self.rows.iter().map(|row| row.iter().map(Cell::plain).collect()).collect();
         let width = |at: usize| shown.iter().map(|row| row[at].chars().count()).chain([self.columns[at].len()]).max().unwrap_or(0);
         let widths: Vec<usize> = (0..self.columns.len()).map(width).collect();
-        let right: Vec<bool> = (0..self.columns.len()).map(|at| self.rows.iter().any(|row| matches!(row[at], Cell::Number(_)))).collect();
+        let right: Vec<bool> =
+            (0..self.columns.len()).map(|at| self.rows.iter().any(|row| matches!(row[at], Cell::Number(_) | Cell::Signed(_)))).collect();
         let mut line = |cells: &[&str]| {
             let mut text = String::new();
             for (at, cell) in cells.iter().enumerate() {
@@ -150,24 +115,21 @@ impl List {
     }
 }
 
-fn object(columns: &[&str], row: &[Cell]) -> String {
-    let fields: Vec<String> = columns.iter().zip(row).map(|(name, cell)| format!("{}: {}", quoted(name), cell.json())).collect();
-    format!("{{{}}}", fields.join(", "))
-}
-
 /// What a change says: a sentence for a terminal, its fields for a program.
 pub struct Said {
     pub sentence: String,
-    pub fields: Vec<(&'static str, Cell)>,
+    pub fields: Fields,
 }
 
 impl Said {
     pub fn print(&self, form: Form) -> Result<(), Failure> {
-        let (columns, row): (Vec<&'static str>, Vec<Cell>) = self.fields.iter().cloned().unzip();
         match form {
             Form::Terminal => output(|out| writeln!(out, "{}", self.sentence)),
-            Form::Csv => List { rows: vec![row], ..List::new(&columns) }.print(form),
-            Form::Json => output(|out| writeln!(out, "{}", object(&columns, &row))),
+            Form::Csv => {
+                let (columns, row): (Vec<&'static str>, Vec<Cell>) = self.fields.iter().cloned().unzip();
+                List { rows: vec![row], ..List::new(&columns) }.print(form)
+            }
+            Form::Json => output(|out| json::write(&Cell::Record(self.fields.clone()), out)),
         }
     }
 }
@@ -175,6 +137,19 @@ impl Said {
 /// Writes to the standard output, all of it or an error.
 pub fn output(write: impl FnOnce(&mut dyn Write) -> io::Result<()>) -> Result<(), Failure> {
     written(write).map(|_| ()).map_err(Failure::output)
+}
+
+/// Writes an answer to where it stays before anything is done about it: a file is synced, and an output that is closed is an error. Gives why it could not.
+pub fn hand_out(write: impl FnOnce(&mut dyn Write) -> io::Result<()>) -> Result<(), String> {
+    let says = |error: io::Error| format!("the system says: {error}");
+    if is_closed(&standard_output().map_err(says)?) {
+        return Err("the standard output is closed".to_string());
+    }
+    let out = written(write).map_err(says)?;
+    match out.metadata() {
+        Ok(of_file) if of_file.is_file() => out.sync_all().map_err(says),
+        _ => Ok(()),
+    }
 }
 
 fn written(write: impl FnOnce(&mut dyn Write) -> io::Result<()>) -> io::Result<File> {
@@ -192,16 +167,4 @@ fn standard_output() -> io::Result<File> {
 fn is_closed(mut out: &File) -> bool {
     let null = fs::metadata("/dev/null").and_then(|null| Ok((null.rdev(), out.metadata()?)));
     null.is_ok_and(|(null, own)| own.file_type().is_char_device() && own.rdev() == null) && out.read(&mut [0]).is_ok()
-}
-
-#[cfg(test)]
-mod tests {
-    use super::{object, Cell};
-
-    #[test]
-    fn cells() {
-        assert_eq!(Cell::Text("a,\"b".to_string()).csv(), "\"a,\"\"b\"");
-        assert_eq!(Cell::Text("a\"\n".to_string()).json(), "\"a\\\"\\u000a\"");
-        assert_eq!(object(&["a", "b"], &[Cell::Number(1), Cell::end(None)]), "{\"a\": 1, \"b\": null}");
-    }
 }

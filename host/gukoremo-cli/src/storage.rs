@@ -3,7 +3,6 @@
 
 use crate::failure::{code, Failure};
 use crate::file::Lake;
-use crate::list::{Cell, Form, List, Said};
 use std::collections::BTreeMap;
 use std::fs;
 use std::path::Path;
@@ -24,18 +23,6 @@ pub fn paths(lake: &Lake) -> BTreeMap<u64, String> {
     let data = records.data_files().map(|file| (file.id, file.table, file.uuid));
     let files = data.chain(records.delete_files().map(|file| (file.id, file.table, file.uuid)));
     files.map(|(id, table, uuid)| (id.0, format!("{}{}", folders.get(&table.0).map_or("", String::as_str), uuid.path()))).collect()
-}
-
-/// What an expiry says: the files that it scheduled, by the paths that they had on record. It is the last to know their tables.
-pub fn say_scheduled(sentence: &str, files: &[u64], paths: &BTreeMap<u64, String>, form: Form) -> Result<(), Failure> {
-    let path = |id: &u64| paths.get(id).cloned().unwrap_or_default();
-    if form == Form::Terminal {
-        let lines: Vec<String> = [sentence.to_owned()].into_iter().chain(files.iter().map(|id| format!("  {id}  {}", path(id)))).collect();
-        return Said { sentence: lines.join("\n"), fields: Vec::new() }.print(form);
-    }
-    let mut list = List::new(&["file", "path"]);
-    list.rows = files.iter().map(|id| vec![Cell::Number(*id), Cell::Text(path(id))]).collect();
-    list.print(form)
 }
 
 /// What is in the storage: the sizes of files in bytes, by their path below the data path.

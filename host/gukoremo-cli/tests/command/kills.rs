@@ -1,7 +1,7 @@
 //! Killed at any moment, the catalogue is as it was or as it was to be, byte for byte.
 
 use crate::support::{answer, bytes, diary, large, names_in, text, Chance, Folder, COMMAND};
-use gukoremo::{CatalogId, FileId, NewStatistics, Uuid};
+use gukoremo::{CatalogId, FileId, NewStatistics, SnapshotId, Uuid};
 use gukoremo_cli::file::{self, Lake};
 use std::os::unix::process::ExitStatusExt;
 use std::path::Path;
@@ -10,8 +10,10 @@ use std::thread::sleep;
 use std::time::{Duration, Instant};
 
 /// On a catalogue of 1,000 records of each kind, whose file takes a while to write, and on the diary's.
-const KILLS_OF_LARGE: u64 = 120;
+const KILLS_OF_LARGE: u64 = 80;
 const KILLS_OF_SMALL: u64 = 80;
+/// In the middle of a batch.
+const KILLS_OF_BATCHES: u64 = 40;
 
 /// Which kills came before the change was in place, which after it, and which left a part of it beside the file.
 #[derive(Default)]
@@ -82,6 +84,23 @@ fn of_files(mut lake: Lake, step: u64) -> Change {
     }
 }
 
+/// Twenty schemas come and go, in one batch.
+fn of_batches(mut lake: Lake, step: u64, batch: &Path) -> Change {
+    let time = 2_000_000 + step;
+    let mut lines = String::new();
+    for at in 0..20 {
+        let made = lake.create_schema(time, format!("batch{at}")).expect("a schema");
+        lake.drop_schema(time, made.schema).expect("an empty schema");
+        lines += &format!("create-schema batch{at} --time {time}\ndrop-schema --schema batch{at} --time {time}\n");
+    }
+    let first = lake.records().snapshots().next().expect("a snapshot").id.0;
+    let snapshots: Vec<SnapshotId> = (first..first + 40).map(SnapshotId).collect();
+    lake.expire(&snapshots, time).expect("an expiry");
+    lines += &format!("expire {first}..{} --time {time}\n", first + 39);
+    std::fs::write(batch, lines).expect("written");
+    Change { words: vec!["apply".to_string(), text(batch).to_string()], new: lake }
+}
+
 /// How many files lie beside the catalogue that were to take its place.
 fn left_behind(path: &Path) -> u64 {
     let own = path.file_name().expect("a name").to_str().expect("a name of this test");
@@ -136,7 +155,10 @@ fn no_kill_loses_a_catalogue() {
     diary(&small_path);
     let one = kill(&large_path, KILLS_OF_LARGE, 1, of_schemas);
     let other = kill(&small_path, KILLS_OF_SMALL, 2, of_files);
-    let (before, after, beside) = (one.before + other.before, one.after + other.after, one.beside + other.beside);
+    std::fs::write(&large_path, bytes(large(1000))).expect("written");
+    let batch = kill(&large_path, KILLS_OF_BATCHES, 3, |lake, step| of_batches(lake, step, &folder.path("batch")));
+    let sum = |of: fn(&Tally) -> u64| [&one, &other, &batch].into_iter().map(of).sum::<u64>();
+    let (before, after, beside) = (sum(|tally| tally.before), sum(|tally| tally.after), sum(|tally| tally.beside));
     println!("{} kills: {before} before the change, {after} after it, {beside} with a part of it beside the file", before + after);
     assert!(before >= 20 && beside >= 5, "{before} before, {beside} in the middle: the kills did not meet the changes");
 }

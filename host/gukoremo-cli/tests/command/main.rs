@@ -1,6 +1,7 @@
 //! The command, tried as a process and from within: kills, locks, rights, damage, a full disk, times ahead of the clock, random scripts, the limits, the published queries.
 //! Chance has a fixed seed, so that a failure comes again.
 
+mod apply;
 mod damage;
 mod diff;
 mod export;
