@@ -9,6 +9,7 @@ use crate::failure::{code, Failure};
 use crate::file::Writing;
 use crate::json;
 use crate::list::{output, Cell, Form};
+use crate::readings::json_form;
 use crate::values::times;
 use clap::{ArgMatches, Command};
 use std::io::{self, Read, Write};
@@ -27,7 +28,7 @@ pub fn run(given: &ArgMatches) -> Result<u8, Failure> {
     let (lines, changes) = parse(&text)?;
     let Played { lake, done, failure } = batch::play(lake, &changes);
     let made = if given.get_flag("atomic") && failure.is_some() { 0 } else { done.len() };
-    let form = if given.get_flag("json") { Form::Json } else { Form::Terminal };
+    let form = json_form(given);
     let failure = failure.map(|failure| at_line(failure, lines[done.len()].number, made));
     if made == 0 {
         return match failure {

@@ -5,10 +5,11 @@ use crate::ask;
 use crate::failure::{code, Failure};
 use crate::file::{self, Lake};
 use crate::list::output;
+use crate::names::Names;
 use crate::storage::{self, Storage};
 use crate::values::times;
 use clap::ArgMatches;
-use gukoremo::{CatalogId, Change, FileId, Snapshot, SnapshotId, Statistics};
+use gukoremo::{Change, FileId, Snapshot, SnapshotId, Statistics};
 use rusqlite::{params, Connection, Transaction};
 use std::collections::BTreeMap;
 use std::fs;
@@ -130,7 +131,7 @@ fn snapshots(lake: &Lake, into: &Transaction<'_>) -> rusqlite::Result<()> {
     for one in lake.records().snapshots() {
         let number = id(one.schema_version);
         insert.execute(params![id(one.id.0), timestamp(one.time), number, id(one.next_catalog_id.0), id(one.next_file_id.0)])?;
-        changes.execute(params![id(one.id.0), names.change(&one)])?;
+        changes.execute(params![id(one.id.0), change(&names, &one)])?;
         // a version begins at the first snapshot that has it and is retained
         if version.replace(number) != Some(number) {
             versions.execute(params![id(one.id.0), number])?;
@@ -139,35 +140,16 @@ fn snapshots(lake: &Lake, into: &Transaction<'_>) -> rusqlite::Result<()> {
     Ok(())
 }
 
-/// The names that a change is described with.
-struct Names {
-    schemas: BTreeMap<u64, String>,
-    tables: BTreeMap<u64, (CatalogId, String)>,
-}
-
-impl Names {
-    fn of(lake: &Lake) -> Names {
-        Names {
-            schemas: lake.records().schemas().map(|schema| (schema.id.0, schema.name)).collect(),
-            tables: lake.records().tables().map(|table| (table.id.0, (table.schema, table.name))).collect(),
-        }
-    }
-
-    fn schema(&self, id: u64) -> String {
-        self.schemas.get(&id).cloned().unwrap_or_else(|| id.to_string())
-    }
-
-    /// "Names are written in quoted-format"; a name has no quotes in it.
-    fn change(&self, snapshot: &Snapshot) -> String {
-        let (kind, object) = (snapshot.change.name(), snapshot.change.object().0);
-        match snapshot.change {
-            Change::CreatedSchema(_) => format!("{kind}:\"{}\"", self.schema(object)),
-            Change::CreatedTable(_) => match self.tables.get(&object) {
-                Some((schema, name)) => format!("{kind}:\"{}\".\"{name}\"", self.schema(schema.0)),
-                None => format!("{kind}:\"{object}\""),
-            },
-            _ => format!("{kind}:{object}"),
-        }
+/// "Names are written in quoted-format"; a name has no quotes in it.
+fn change(names: &Names, snapshot: &Snapshot) -> String {
+    let (kind, object) = (snapshot.change.name(), snapshot.change.object());
+    match snapshot.change {
+        Change::CreatedSchema(id) => format!("{kind}:\"{}\"", names.schema(id)),
+        Change::CreatedTable(id) => match names.table(id) {
+            Some((schema, name)) => format!("{kind}:\"{schema}\".\"{name}\""),
+            None => format!("{kind}:\"{id}\""),
+        },
+        _ => format!("{kind}:{object}"),
     }
 }
 

@@ -22,6 +22,8 @@ pub mod json;
 pub mod list;
 pub mod lock;
 pub mod manual;
+pub mod names;
+pub mod of_file;
 pub mod play;
 pub mod readings;
 pub mod refused;
@@ -72,7 +74,9 @@ fn run(name: &str, given: &ArgMatches) -> Result<u8, Failure> {
         "play" => play::run(given),
         "man" | "completions" => setup::run(given),
         "room" => rooms::room(given),
-        "snapshots" | "schemas" | "tables" | "columns" | "files" | "rows" | "at" | "lookup" | "scheduled" => readings::run(name, given),
+        "snapshots" | "schemas" | "tables" | "columns" | "files" | "rows" | "at" | "lookup" | "statistics" | "positions" | "scheduled" => {
+            readings::run(name, given)
+        }
         _ => changes::run(name, given),
     }
 }

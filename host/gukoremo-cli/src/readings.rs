@@ -4,13 +4,16 @@ use crate::ask;
 use crate::failure::Failure;
 use crate::file::{self, Lake};
 use crate::list::{output, Cell, Form, List, Said};
+use crate::names::Names;
+use crate::of_file;
 use crate::source::{in_one_list, Source};
 use crate::storage;
 use crate::values::names::{Reference, TableReference};
 use crate::values::times;
 use clap::ArgMatches;
-use gukoremo::{CatalogId, DataFile, DeleteFile, File, FileId, Listed, Schema, SnapshotId, Uuid};
+use gukoremo::{CatalogId, DataFile, DeleteFile, FileId, Listed, Schema, SnapshotId, Uuid};
 use std::collections::HashMap;
+use std::io::{self, Write};
 use std::path::PathBuf;
 
 pub fn form(given: &ArgMatches) -> Form {
@@ -18,6 +21,15 @@ pub fn form(given: &ArgMatches) -> Form {
         (true, _) => Form::Csv,
         (_, true) => Form::Json,
         _ => Form::Terminal,
+    }
+}
+
+/// The form of a command that answers in sentences or JSON.
+pub fn json_form(given: &ArgMatches) -> Form {
+    if given.get_flag("json") {
+        Form::Json
+    } else {
+        Form::Terminal
     }
 }
 
@@ -32,28 +44,31 @@ pub fn run(name: &str, given: &ArgMatches) -> Result<u8, Failure> {
         "files" => files(&mut lake, given, form)?.print(form),
         "rows" => rows(&mut lake, given, form),
         "at" => snapshot_at(&lake, given)?.print(form),
-        "lookup" => lookup(&lake, FileId(*given.get_one("id").expect("required")))?.print(form),
+        "lookup" => of_file::lookup(&lake, given)?.print(form),
+        "positions" => of_file::positions(&lake, given, form),
+        "statistics" => of_file::statistics(&lake, given)?.print(form),
         _ => scheduled(&lake)?.print(form),
     }?;
     Ok(0)
 }
 
-fn at(from: &dyn Source, given: &ArgMatches) -> Result<SnapshotId, Failure> {
+pub fn at(from: &dyn Source, given: &ArgMatches) -> Result<SnapshotId, Failure> {
     ask::snapshot(from, given.get_one("at").copied(), given.get_one("time").copied())
 }
 
-fn number(number: u64) -> Cell {
+pub fn number(number: u64) -> Cell {
     Cell::Number(number)
 }
 
-fn text(text: impl Into<String>) -> Cell {
+pub fn text(text: impl Into<String>) -> Cell {
     Cell::Text(text.into())
 }
 
 fn snapshots(lake: &Lake) -> Result<List, Failure> {
     // no reading lists them; this one refuses tables that are not sound
     ask::by_time(lake, u64::MAX)?;
-    let mut list = List::new(&["snapshot", "time", "when", "change", "object", "schema_version"]);
+    let names = Names::of(lake);
+    let mut list = List::new(&["snapshot", "time", "when", "change", "object", "name", "schema_version"]);
     for snapshot in lake.records().snapshots() {
         list.rows.push(vec![
             number(snapshot.id.0),
@@ -61,6 +76,7 @@ fn snapshots(lake: &Lake) -> Result<List, Failure> {
             text(times::rfc(snapshot.time)),
             text(snapshot.change.name()),
             number(snapshot.change.object().0),
+            names.object(&snapshot).map_or(Cell::Nothing, Cell::Text),
             number(snapshot.schema_version),
         ]);
     }
@@ -86,17 +102,22 @@ fn schemas(lake: &mut Lake, given: &ArgMatches) -> Result<List, Failure> {
     Ok(list)
 }
 
+/// Of one schema, or of all that are there.
 fn tables(lake: &mut Lake, given: &ArgMatches) -> Result<List, Failure> {
-    let main = Reference::Name("main".to_string());
     let listed = in_one_list(lake, |from| {
         let at = at(from, given)?;
-        ask::tables(from, at, ask::schema_id(from, at, given.get_one("schema").unwrap_or(&main))?)
+        let schemas = match given.get_one("schema") {
+            Some(reference) => vec![ask::schema_id(from, at, reference)?],
+            None => ask::schemas(from, at)?,
+        };
+        schemas.into_iter().map(|schema| ask::tables(from, at, schema)).collect::<Result<Vec<_>, Failure>>()
     })?;
+    let names = Names::of(lake);
     let known: HashMap<CatalogId, _> = lake.records().tables().map(|table| (table.id, table)).collect();
-    let mut list = List::new(&["table", "name", "begin", "end", "next_row"]);
-    for table in listed.iter().filter_map(|id| known.get(id)) {
+    let mut list = List::new(&["table", "schema", "name", "begin", "end", "next_row"]);
+    for table in listed.iter().flatten().filter_map(|id| known.get(id)) {
         let (begin, end) = (number(table.life.begin.0), Cell::end(table.life.end));
-        list.rows.push(vec![number(table.id.0), text(&table.name), begin, end, number(table.next_row_id.0)]);
+        list.rows.push(vec![number(table.id.0), text(names.schema(table.schema)), text(&table.name), begin, end, number(table.next_row_id.0)]);
     }
     Ok(list)
 }
@@ -167,19 +188,20 @@ fn rows(lake: &mut Lake, given: &ArgMatches, form: Form) -> Result<(), Failure> 
         let (at, table) = table(from, given)?;
         ask::rows(from, at, table)
     })?;
-    output(|out| {
-        match form {
-            Form::Json => {
-                write!(out, "[")?;
-                for (at, row) in rows.iter().enumerate() {
-                    write!(out, "{}{}", if at == 0 { "" } else { ", " }, row.0)?;
-                }
-                return writeln!(out, "]");
-            }
-            Form::Csv | Form::Terminal => writeln!(out, "row")?,
+    output(|out| numbers("row", rows.iter().map(|row| row.0), form, out))
+}
+
+/// A list of numbers alone.
+pub fn numbers(what: &str, mut numbers: impl Iterator<Item = u64>, form: Form, out: &mut dyn Write) -> io::Result<()> {
+    if form == Form::Json {
+        write!(out, "[")?;
+        for (at, number) in numbers.enumerate() {
+            write!(out, "{}{number}", if at == 0 { "" } else { ", " })?;
         }
-        rows.iter().try_for_each(|row| writeln!(out, "{}", row.0))
-    })
+        return writeln!(out, "]");
+    }
+    writeln!(out, "{what}")?;
+    numbers.try_for_each(|number| writeln!(out, "{number}"))
 }
 
 fn snapshot_at(lake: &Lake, given: &ArgMatches) -> Result<Said, Failure> {
@@ -190,25 +212,4 @@ fn snapshot_at(lake: &Lake, given: &ArgMatches) -> Result<Said, Failure> {
         sentence: format!("snapshot {}, of {own} ({})", id.0, times::rfc(own)),
         fields: vec![("snapshot", number(id.0)), ("time", number(own))],
     })
-}
-
-/// The record, a field to a line.
-fn lookup(lake: &Lake, id: FileId) -> Result<Said, Failure> {
-    let found = ask::lookup(lake, id)?;
-    let (kind, own) = match found {
-        File::Data(file) => ("data_file", [("record_count", number(file.record_count)), ("row_id_start", number(file.row_id_start.0))]),
-        File::Delete(file) => ("delete_file", [("data_file", number(file.data_file.0)), ("delete_count", number(file.delete_count))]),
-    };
-    let mut fields = vec![
-        ("kind", text(kind)),
-        ("id", number(found.id().0)),
-        ("table", number(found.table().0)),
-        ("begin", number(found.life().begin.0)),
-        ("end", Cell::end(found.life().end)),
-    ];
-    fields.extend(own);
-    let path = storage::paths(lake).remove(&id.0).unwrap_or_default();
-    fields.extend([("uuid", text(found.uuid().to_string())), ("path", text(path))]);
-    let lines: Vec<String> = fields.iter().map(|(name, cell)| format!("{name:<13} {}", cell.plain()).trim_end().to_string()).collect();
-    Ok(Said { sentence: lines.join("\n"), fields })
 }

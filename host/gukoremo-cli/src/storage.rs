@@ -3,6 +3,8 @@
 
 use crate::failure::{code, Failure};
 use crate::file::Lake;
+use crate::names::Names;
+use gukoremo::CatalogId;
 use std::collections::BTreeMap;
 use std::fs;
 use std::path::Path;
@@ -16,13 +18,11 @@ pub fn folder(schema: &str, table: &str) -> String {
 
 /// The paths of the data and delete files on record, by id.
 pub fn paths(lake: &Lake) -> BTreeMap<u64, String> {
-    let records = lake.records();
-    let schemas: BTreeMap<u64, String> = records.schemas().map(|schema| (schema.id.0, schema.name)).collect();
-    let name = |id: u64| schemas.get(&id).cloned().unwrap_or_else(|| id.to_string());
-    let folders: BTreeMap<u64, String> = records.tables().map(|table| (table.id.0, folder(&name(table.schema.0), &table.name))).collect();
-    let data = records.data_files().map(|file| (file.id, file.table, file.uuid));
-    let files = data.chain(records.delete_files().map(|file| (file.id, file.table, file.uuid)));
-    files.map(|(id, table, uuid)| (id.0, format!("{}{}", folders.get(&table.0).map_or("", String::as_str), uuid.path()))).collect()
+    let names = Names::of(lake);
+    let folder_of = |table: CatalogId| names.table(table).map_or(String::new(), |(schema, name)| folder(&schema, name));
+    let data = lake.records().data_files().map(|file| (file.id, file.table, file.uuid));
+    let files = data.chain(lake.records().delete_files().map(|file| (file.id, file.table, file.uuid)));
+    files.map(|(id, table, uuid)| (id.0, format!("{}{}", folder_of(table), uuid.path()))).collect()
 }
 
 /// What is in the storage: the sizes of files in bytes, by their path below the data path.

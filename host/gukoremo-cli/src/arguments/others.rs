@@ -1,6 +1,6 @@
 //! Commands about whole catalogues, and raw calls.
 
-use super::shared::{file, forms};
+use super::shared::{file, forms, json};
 use crate::values::numbers;
 use clap::{value_parser, Arg, ArgAction, Command};
 use std::path::PathBuf;
@@ -10,7 +10,8 @@ pub fn all() -> Vec<Command> {
         Command::new("check")
             .about("Say whether the tables are sound, or which line of 'Sound tables' fails first and where")
             .after_help("Exit code 0 is sound, 1 is not sound, 65 is a file that is damaged or no catalogue.")
-            .arg(file()),
+            .arg(file())
+            .arg(json()),
         Command::new("diff")
             .about("Say what two catalogues don't share, a line for each difference")
             .after_help(

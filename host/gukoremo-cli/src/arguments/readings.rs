@@ -1,7 +1,7 @@
 //! The commands that read a catalogue.
 
 use super::shared::{at, file, forms, schema, table};
-use crate::values::{names, numbers, times};
+use crate::values::{files, names, times};
 use clap::{Arg, Command};
 
 pub fn all() -> Vec<Command> {
@@ -9,10 +9,10 @@ pub fn all() -> Vec<Command> {
         Command::new("snapshots").about("List the snapshots that are retained").arg(file()).args(forms()),
         Command::new("schemas").about("List the schemas at a snapshot").arg(file()).args(at()).args(forms()),
         Command::new("tables")
-            .about("List the tables of a schema at a snapshot")
+            .about("List the tables at a snapshot, of all schemas or of one")
             .after_help("Example:\n  gukoremo tables shop.lake --schema books --at 4")
             .arg(file())
-            .arg(schema().help("The schema, by name or id [default: main]"))
+            .arg(schema().help("The schema, by name or id [default: all]"))
             .args(at())
             .args(forms()),
         Command::new("columns").about("List the columns of a table at a snapshot, in their order").arg(file()).arg(table()).args(at()).args(forms()),
@@ -41,13 +41,30 @@ pub fn all() -> Vec<Command> {
             .arg(Arg::new("time").value_name("TIME").required(true).value_parser(times::parse).allow_negative_numbers(true).help("Microseconds since 1970, RFC 3339, a date, or now"))
             .args(forms()),
         Command::new("lookup")
-            .about("Show the record of a data file or a delete file, by its id")
+            .about("Show the record of a data file or a delete file")
             .after_help("Example:\n  gukoremo lookup shop.lake 0\n\nRefusal: 6.")
             .arg(file())
-            .arg(Arg::new("id").value_name("ID").required(true).value_parser(numbers::number).allow_negative_numbers(true).help("The file's id"))
+            .arg(of_file())
+            .args(forms()),
+        Command::new("statistics")
+            .about("List the statistics of a data file, a line for each column")
+            .after_help("Examples:\n  gukoremo statistics shop.lake 0\n  gukoremo statistics shop.lake main/diary/ducklake-UUID.parquet\n\nRefusal: 6.")
+            .arg(file())
+            .arg(of_file())
+            .args(forms()),
+        Command::new("positions")
+            .about("List the positions that a delete file holds, or those of a data file that are deleted at a snapshot")
+            .after_help("Examples:\n  gukoremo positions shop.lake 3\n  gukoremo positions shop.lake 0 --at 4\n\nRefusals: 5, 6, 7.")
+            .arg(file())
+            .arg(of_file())
+            .args(at())
             .args(forms()),
         Command::new("scheduled").about("List the files that are scheduled to be removed").arg(file()).args(forms()),
     ]
+}
+
+fn of_file() -> Arg {
+    Arg::new("id").value_name("ID|PATH").required(true).value_parser(files::parse).allow_negative_numbers(true).help("The file, by id or path")
 }
 
 /// `price=14`: a column and a value.

@@ -8,6 +8,7 @@ mod export;
 mod kills;
 mod limits;
 mod locks;
+mod readings;
 mod refusals;
 mod rights;
 mod scripts;

@@ -90,7 +90,7 @@ fn names_and_ids() {
         answer(&["insert", text(&path), "--table", reference, "--rows", "2", "1=0..1", "nulls=1"]);
     }
     assert_eq!(answer(&["rows", text(&path), "--table", "3", "--csv"]).lines().count(), 13);
-    assert_eq!(answer(&["tables", text(&path), "--schema", "\"7\"", "--csv"]).lines().nth(1).map(|line| &line[..4]), Some("3,8,"));
+    assert_eq!(answer(&["tables", text(&path), "--schema", "\"7\"", "--csv"]).lines().nth(1).map(|line| &line[..6]), Some("3,7,8,"));
     assert_eq!(answer(&["files", text(&path), "--table", "3", "--where", "nulls=5", "--csv"]).lines().count(), 4);
 }
 

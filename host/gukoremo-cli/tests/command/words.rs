@@ -14,7 +14,7 @@ fn numbers_below_zero() {
         (vec!["delete", "--file", "-1", "--positions", "0"], "'-1' is no number from 0"),
         (vec!["delete", "--file", "0", "--positions", "-1"], "'-1' is no number from 0"),
         (vec!["expire", "-1"], "'-1' is no number from 0"),
-        (vec!["lookup", "-1"], "'-1' is no number from 0"),
+        (vec!["lookup", "-1"], "'-1' is no file: that is its id"),
         (vec!["files", "--table", "diary", "--at", "-1"], "'-1' is no number from 0"),
         (vec!["files", "--table", "diary", "--time", "-1"], "a time is microseconds since 1970"),
         (vec!["at", "-1"], "a time is microseconds since 1970"),
