@@ -31,6 +31,7 @@ pub mod rights;
 pub mod rooms;
 pub mod runs;
 pub mod setup;
+pub mod show;
 pub mod source;
 pub mod storage;
 pub mod values;
@@ -74,6 +75,7 @@ fn run(name: &str, given: &ArgMatches) -> Result<u8, Failure> {
         "play" => play::run(given),
         "man" | "completions" => setup::run(given),
         "room" => rooms::room(given),
+        "show" => show::run(given),
         "snapshots" | "schemas" | "tables" | "columns" | "files" | "rows" | "at" | "lookup" | "statistics" | "positions" | "scheduled" => {
             readings::run(name, given)
         }

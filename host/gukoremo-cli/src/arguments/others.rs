@@ -37,6 +37,11 @@ pub fn all() -> Vec<Command> {
                     .help("Compare all that is on record: ended records and scheduled files too"),
             )
             .args(forms()),
+        Command::new("show")
+            .about("Draw the lives of files over snapshots: what is retained, scheduled, gone")
+            .after_help("Example:\n  gukoremo show shop.lake --svg > shop.svg\n\nA row for each file, a column for each retained snapshot.")
+            .arg(file())
+            .arg(Arg::new("svg").long("svg").action(ArgAction::SetTrue).help("As an SVG picture, for a browser")),
         Command::new("export")
             .about("Write a DuckLake 0.3 catalogue in SQLite, for the published queries")
             .after_help("Example:\n  gukoremo export shop.lake shop.sqlite --data-path s3://shop/lake/")
