@@ -20,6 +20,9 @@ Lines; # begins a comment:
   area LENGTH [FILL]           the answer area
   dump                         the runs, the counts and the area as they are
   = NUMBER PLACE LENGTH ..     the last call gave this line, else the script ends here
+  list, end                    the calls on the lines between these are played as one call: a line for each, number, place,
+                               length, the answer's words; then how many were played, the words of all answers, the nine
+                               counts. The answers lie in the area one behind another
   sum HEXADECIMAL              the runs and the area have this sum (conformance/README.md), else the script ends here
 Runs: snapshots schemas schema_names tables table_names columns column_names data_files delete_files positions
       statistics scheduled. A run that was not lent has length 0.
@@ -54,7 +57,9 @@ pub fn run(given: &ArgMatches) -> Result<u8, Failure> {
 /// Plays the lines. Input need not be text: what is not UTF-8 is a wrong line.
 pub fn play(lines: impl BufRead, out: &mut dyn Write) -> Result<(), Failure> {
     let mut stage = Stage::default();
+    let mut last = 0;
     for (at, line) in lines.split(b'\n').enumerate() {
+        last = at + 1;
         let wrong =
             |why: String| Failure::new(code::DATA, format!("line {}: {why}.", at + 1)).advice("see 'gukoremo play --help' for what a line may be.");
         let line = line.map_err(|error| wrong(format!("it could not be read; the system says: {error}")))?;
@@ -65,5 +70,8 @@ pub fn play(lines: impl BufRead, out: &mut dyn Write) -> Result<(), Failure> {
             line::Fault::Output(error) => Failure::output(error),
         })?;
     }
-    Ok(())
+    match stage.list {
+        None => Ok(()),
+        Some(_) => Err(Failure::new(code::DATA, format!("line {last}: the script ends within a list.")).advice("put 'end' after its last call.")),
+    }
 }

@@ -4,7 +4,8 @@ use super::calls;
 use super::line::{self, Arguments, Fault, Word};
 use crate::runs::{self, Run, RunView};
 use gukoremo::number::NAME_SIZE;
-use gukoremo::{Counts, OwnedTables};
+use gukoremo::session::TOLD_SIZE;
+use gukoremo::{raw, CallList, Counts, Lend, OwnedTables};
 use std::fmt::Display;
 use std::io::Write;
 
@@ -12,13 +13,15 @@ pub struct Stage {
     pub tables: OwnedTables,
     pub counts: Counts,
     pub area: Vec<u64>,
-    /// the line of the last call
+    /// the line of the last call or list
     answer: String,
+    /// the list that has begun and not ended
+    pub list: Option<CallList>,
 }
 
 impl Default for Stage {
     fn default() -> Stage {
-        Stage { tables: OwnedTables::default(), counts: Counts::NONE, area: Vec::new(), answer: String::new() }
+        Stage { tables: OwnedTables::default(), counts: Counts::NONE, area: Vec::new(), answer: String::new(), list: None }
     }
 }
 
@@ -34,6 +37,9 @@ impl Stage {
             Some(Word::List(_)) => return Err("a line begins with a command, not with a list".to_string().into()),
         };
         let mut given = Arguments { command, rest };
+        if self.list.is_some() && ["lend", "set", "counts", "area", "dump", "=", "sum", "list"].contains(&command) {
+            return Err(format!("{command} stands within a list, which has calls alone").into());
+        }
         match command {
             "lend" => self.lend(&mut given)?,
             "set" => self.set(&mut given)?,
@@ -57,19 +63,49 @@ impl Stage {
                     return Err(format!("the sum of the runs and the area is {sum}, and not {said}").into());
                 }
             }
-            _ => match calls::call(self, &mut given)? {
-                None => return Err(format!("'{command}' is no command").into()),
-                Some(outcome) => {
-                    let counts = runs::words_of(outcome.counts);
-                    let answer = self.area.iter().take(outcome.length);
-                    let words: Vec<String> = counts.iter().map(|count| count.to_string()).chain(answer.map(|word| word.to_string())).collect();
-                    self.answer = format!("{} {} {} {}", outcome.number, outcome.place, outcome.length, words.join(" "));
-                    writeln!(out, "{}", self.answer)?;
-                    self.counts = outcome.counts;
+            "list" => {
+                given.end()?;
+                self.list = Some(CallList::new());
+            }
+            "end" => {
+                given.end()?;
+                let list = self.list.take().ok_or_else(|| "no list has begun".to_string())?;
+                self.play_list(&list, out)?;
+            }
+            _ => {
+                let call = calls::read(&mut given)?.ok_or_else(|| format!("'{command}' is no command"))?;
+                match &mut self.list {
+                    Some(list) => call.push(list),
+                    None => {
+                        let outcome = call.play(self);
+                        self.counts = outcome.counts;
+                        let told = format!("{} {} {}", outcome.number, outcome.place, outcome.length);
+                        self.answer = joined(&told, self.count_words().chain(self.area.iter().copied().take(outcome.length)));
+                        writeln!(out, "{}", self.answer)?;
+                    }
                 }
-            },
+            }
         }
         Ok(())
+    }
+
+    /// A list as one call: a line for each that is played, its number, place, length and answer; then one with how many were played, the words of all answers and the
+    /// counts.
+    fn play_list(&mut self, list: &CallList, out: &mut dyn Write) -> std::io::Result<()> {
+        let mut told = vec![0; list.len() * TOLD_SIZE];
+        let session = raw::play(self.tables.lend(), self.counts, &list.calls, &list.lists, &list.names, &mut self.area, &mut told);
+        let mut answers = self.area.iter().copied();
+        for outcome in told.chunks_exact(TOLD_SIZE).take(session.played) {
+            let told = format!("{} {} {}", outcome[0], outcome[1], outcome[2]);
+            writeln!(out, "{}", joined(&told, answers.by_ref().take(outcome[2] as usize)))?;
+        }
+        self.counts = session.counts;
+        self.answer = joined(&format!("{} {}", session.played, session.answered), self.count_words());
+        writeln!(out, "{}", self.answer)
+    }
+
+    fn count_words(&self) -> impl Iterator<Item = u64> {
+        runs::words_of(self.counts).into_iter().map(|count| count as u64)
     }
 
     fn run(&mut self, name: &str) -> Result<Run<'_>, String> {
@@ -168,6 +204,12 @@ impl Stage {
         writeln!(out)?;
         dump_line(out, "area", self.area.len(), &self.area)
     }
+}
+
+/// Words after others, with a space before each.
+fn joined(first: &str, words: impl Iterator<Item = u64>) -> String {
+    let words: Vec<String> = std::iter::once(first.to_string()).chain(words.map(|word| word.to_string())).collect();
+    words.join(" ")
 }
 
 fn length(given: &mut Arguments<'_>) -> Result<usize, String> {

@@ -48,7 +48,7 @@ fn line(chance: &mut Chance, time: u64) -> String {
         1 => format!("set {run} {} {} {}", chance.below(40), word(chance), word(chance)),
         2 => format!("counts {}", (0..9).map(|_| word(chance)).collect::<Vec<_>>().join(" ")),
         3 => format!("area {} {}", chance.below(40), word(chance)),
-        4 => "dump".to_string(),
+        4 => chance.pick(&["dump", "list", "end", "end"]).to_string(),
         5 => format!("create_schema {} {}", word(chance), name(chance)),
         6 => format!("create_table {} {} {} {} [{} {}]", word(chance), word(chance), name(chance), words(chance, 6), name(chance), name(chance)),
         7 => format!("insert {} {} {} {} {} {}", word(chance), word(chance), word(chance), word(chance), word(chance), words(chance, 14)),
@@ -65,6 +65,21 @@ fn line(chance: &mut Chance, time: u64) -> String {
             format!("{call} {} {}", word(chance), word(chance))
         }
         _ => likely(chance, time),
+    }
+}
+
+/// A reading that can be answered.
+fn reading(chance: &mut Chance) -> String {
+    let (at, id) = (chance.below(9), chance.below(4));
+    match chance.below(8) {
+        0 => format!("list_schemas {at}"),
+        1 => format!("list_tables {at} 0"),
+        2 => format!("list_columns {at} {id}"),
+        3 => format!("list_files {at} {id}"),
+        4 => format!("list_rows {at} {id}"),
+        5 => format!("list_filtered_files {at} {id} 1 2"),
+        6 => format!("snapshot_by_time {}", 95 + chance.below(30)),
+        _ => format!("copy_file {id}"),
     }
 }
 
@@ -109,4 +124,39 @@ fn every_script_is_answered() {
     }
     println!("{SCRIPTS} scripts: {whole} played to their end, {lines} answers, {accepted} accepted");
     assert!(whole > 1_000 && accepted > 10_000, "{whole} played to their end, {accepted} calls accepted");
+}
+
+/// What a script answers; it must be played to its end.
+fn answers(script: &str) -> Vec<String> {
+    let mut out = Vec::new();
+    play(script.as_bytes(), &mut out).unwrap_or_else(|failure| panic!("{failure}{script}"));
+    String::from_utf8(out).expect("answers are text").lines().map(str::to_string).collect()
+}
+
+/// A list says of each call what the call says alone, and leaves the same runs and counts.
+#[test]
+fn lists_are_their_calls() {
+    let mut accepted = 0;
+    for seed in 0..500 {
+        let mut chance = Chance::new(90_000 + seed);
+        let mut start: String = NAMES.iter().map(|run| format!("lend {run} {}\n", 70 + chance.below(300))).collect();
+        start += "area 4096\nfresh 100\n";
+        let calls: Vec<String> =
+            (0..1 + chance.below(30)).map(|at| if chance.below(2) == 0 { likely(&mut chance, 110 + at) } else { reading(&mut chance) }).collect();
+        let calls_text = calls.join("\n");
+        let alone = answers(&format!("{start}{calls_text}\ndump\n"));
+        let listed = answers(&format!("{start}list\n{calls_text}\nend\ndump\n"));
+        let (ends, lines) = (1 + calls.len(), |line: &String| line.split(' ').map(str::to_string).collect::<Vec<String>>());
+        for (one, other) in alone[1..ends].iter().zip(&listed[1..ends]) {
+            let (mut one, other) = (lines(one), lines(other));
+            one.drain(3..12);
+            assert_eq!(one, other, "script {seed}:\n{calls_text}");
+            accepted += u64::from(one[0] == "0");
+        }
+        assert_eq!(lines(&alone[ends - 1])[3..12], lines(&listed[ends])[2..], "script {seed}");
+        assert_eq!(lines(&listed[ends])[0], calls.len().to_string(), "script {seed}");
+        // all of the dump but the area
+        assert_eq!(alone[ends..alone.len() - 1], listed[ends + 1..listed.len() - 1], "script {seed}");
+    }
+    assert!(accepted > 2_000, "{accepted} accepted");
 }
