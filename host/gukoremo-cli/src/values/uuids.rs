@@ -5,20 +5,9 @@ use gukoremo::Uuid;
 use std::fs::File;
 use std::io::{self, Read};
 
-/// 8-4-4-4-12 hexadecimal digits, in either case; or the 32 digits without the strokes.
+/// 8-4-4-4-12 hexadecimal digits, in either case, or another form that the uuid crate reads.
 pub fn parse(text: &str) -> Result<Uuid, String> {
-    let wrong = || "a UUID is 8-4-4-4-12 hexadecimal digits, such as 00000000-0000-0000-0000-000000000001".to_string();
-    let strokes = [8, 13, 18, 23];
-    let digits: Vec<u8> = match text.len() {
-        36 if strokes.iter().all(|at| text.as_bytes()[*at] == b'-') => {
-            text.bytes().enumerate().filter(|(at, _)| !strokes.contains(at)).map(|(_, digit)| digit).collect()
-        }
-        32 => text.bytes().collect(),
-        _ => return Err(wrong()),
-    };
-    let word =
-        |digits: &[u8]| digits.iter().try_fold(0, |word: u64, digit| Some(word << 4 | (*digit as char).to_digit(16)? as u64)).ok_or_else(wrong);
-    Ok(Uuid { high: word(&digits[..16])?, low: word(&digits[16..])? })
+    text.parse().map_err(|_| "a UUID is 8-4-4-4-12 hexadecimal digits, such as 00000000-0000-0000-0000-000000000001".to_string())
 }
 
 /// A new one of version 7: the clock's milliseconds, then chance. Files made later sort later.
