@@ -6,10 +6,11 @@ use crate::file::Lake;
 use crate::list::{output, Cell, Form, List, Said};
 use crate::readings::{at, number, numbers, text};
 use crate::refused::{refuse, Asked};
+use crate::source::in_one_list;
 use crate::storage;
 use crate::values::files::FileReference;
 use clap::ArgMatches;
-use gukoremo::{File, Refusal, Statistics};
+use gukoremo::{File, Refusal, Statistics, Uuid};
 
 fn missing(lake: &Lake, thing: String) -> Failure {
     refuse(Refusal::NotLive, lake, &Asked { thing: Some(thing), ..Asked::default() })
@@ -18,16 +19,20 @@ fn missing(lake: &Lake, thing: String) -> Failure {
 /// The record of the file that is meant. Refused where there is none, or the tables are not sound.
 fn file(lake: &Lake, given: &ArgMatches) -> Result<File, Failure> {
     let reference: &FileReference = given.get_one("id").expect("required");
-    let id = match reference {
-        FileReference::Id(id) => *id,
-        FileReference::Uuid(uuid) => {
-            ask::by_time(lake, u64::MAX)?;
-            let data = lake.records().data_files().map(|file| (file.id, file.uuid));
-            let mut all = data.chain(lake.records().delete_files().map(|file| (file.id, file.uuid)));
-            all.find(|(_, own)| own == uuid).map(|(id, _)| id).ok_or_else(|| missing(lake, format!("file {reference}")))?
-        }
+    let with_uuid = |uuid: &Uuid| {
+        let data = lake.records().data_files().map(|file| (file.id, file.uuid));
+        let mut all = data.chain(lake.records().delete_files().map(|file| (file.id, file.uuid)));
+        all.find(|(_, own)| own == uuid).map(|(id, _)| id)
     };
-    ask::lookup(lake, id)
+    let id = match reference {
+        FileReference::Id(id) => Some(*id),
+        FileReference::Uuid(uuid) => with_uuid(uuid),
+    };
+    match id {
+        Some(id) => ask::lookup(lake, id),
+        // refused first where the tables are not sound
+        None => ask::by_time(lake, u64::MAX).and(Err(missing(lake, format!("file {reference}")))),
+    }
 }
 
 /// The record, a field to a line.
@@ -68,12 +73,14 @@ pub fn statistics(lake: &Lake, given: &ArgMatches) -> Result<List, Failure> {
 }
 
 /// The positions that a delete file holds, or those of a data file that are deleted at a snapshot.
-pub fn positions(lake: &Lake, given: &ArgMatches, form: Form) -> Result<(), Failure> {
+pub fn positions(lake: &mut Lake, given: &ArgMatches, form: Form) -> Result<(), Failure> {
     let delete_file = match file(lake, given)? {
         File::Delete(file) => Some(file.id),
         File::Data(file) => {
-            let at = at(lake, given)?;
-            let listed = ask::files(lake, at, file.table, None)?;
+            let (at, listed) = in_one_list(lake, |from| {
+                let at = at(from, given)?;
+                Ok((at, ask::files(from, at, file.table, None)?))
+            })?;
             let pair = listed.iter().find(|pair| pair.data_file == file.id);
             pair.ok_or_else(|| refuse(Refusal::NotLive, lake, &Asked::of(at, format!("data file {}", file.id))))?.delete_file
         }

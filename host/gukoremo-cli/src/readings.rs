@@ -45,7 +45,7 @@ pub fn run(name: &str, given: &ArgMatches) -> Result<u8, Failure> {
         "rows" => rows(&mut lake, given, form),
         "at" => snapshot_at(&lake, given)?.print(form),
         "lookup" => of_file::lookup(&lake, given)?.print(form),
-        "positions" => of_file::positions(&lake, given, form),
+        "positions" => of_file::positions(&mut lake, given, form),
         "statistics" => of_file::statistics(&lake, given)?.print(form),
         _ => scheduled(&lake)?.print(form),
     }?;
