@@ -81,7 +81,7 @@ fn parse(text: &str) -> Result<(Vec<Line>, Vec<Change>), Failure> {
 
 /// The words of a line, as a shell finds them; none where it is blank or a comment.
 fn words(line: &str) -> Result<Vec<String>, Failure> {
-    shlex::split(line).ok_or_else(|| Failure::new(code::DATA, "a quote does not end."))
+    shlex::split(line).ok_or_else(|| Failure::new(code::DATA, "a quote or a backslash at the end stands open."))
 }
 
 fn parse_change(commands: &mut [Command], words: &[String], now: u64) -> Result<Change, Failure> {

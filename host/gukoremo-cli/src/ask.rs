@@ -3,7 +3,7 @@
 use crate::failure::{code, Failure};
 use crate::file::Lake;
 use crate::refused::{refuse, Asked};
-use crate::source::{Reading, Source, MOST_WORDS};
+use crate::source::{Reading, Sizes, Source, MOST_WORDS};
 use crate::values::names::{Reference, TableReference};
 use gukoremo::{CatalogId, File, FileId, Listed, Refusal, RowId, SnapshotId};
 use std::cell::Cell;
@@ -75,7 +75,7 @@ pub fn rows(from: &dyn Source, at: SnapshotId, table: CatalogId) -> Result<Vec<R
         Ok(words) => Ok(words.into_iter().map(RowId).collect()),
         Err(Refusal::ShortAnswerArea) => {
             Err(Failure::new(code::TOO_MUCH, format!("Table {} has more rows at snapshot {} than can be listed at once.", table.0, at.0))
-                .why(format!("its files have {} rows, and {MOST_WORDS} can be held.", reading.most(from.lake())))
+                .why(format!("its files have {} rows, and {MOST_WORDS} can be held.", reading.most(&Sizes::of(from.lake()))))
                 .advice("list its files: their row ranges are in 'gukoremo lookup'."))
         }
         Err(refusal) => Err(refuse(refusal, from.lake(), &Asked::of(at, format!("table {}", table.0)))),

@@ -8,8 +8,9 @@ use crate::refused::ranges;
 use crate::source::{in_one_list, Source, LIST_WORDS};
 use crate::storage;
 use gukoremo::session::CallRecord;
-use gukoremo::{Column, DataFile, DeleteFile, Life, Schema, Snapshot, SnapshotId, Statistics, Table, Uuid};
-use std::rc::Rc;
+use gukoremo::{CatalogId, Column, DataFile, DeleteFile, FileId, Life, Schema, Snapshot, SnapshotId, Statistics, Table, Uuid};
+use std::collections::{HashMap, HashSet};
+use std::hash::Hash;
 
 /// One thing, with what is said of it.
 pub struct Node {
@@ -60,15 +61,14 @@ pub fn snapshots(lake: &Lake) -> Result<Vec<Node>, Failure> {
 
 /// What a snapshot shows.
 pub fn shown(lake: &mut Lake, at: SnapshotId) -> Result<Vec<Node>, Failure> {
-    in_one_list(lake, |from| Reader::new(from, Some(at)).schemas())
+    let index = Index::of(lake);
+    in_one_list(lake, |from| Reader { from, at: Some(at), index: &index }.schemas())
 }
 
 /// Of each snapshot the tables that it shows, each with its rows alone.
 pub fn rows(lake: &mut Lake, snapshots: &[SnapshotId]) -> Vec<Result<Vec<Node>, Failure>> {
-    in_one_list(lake, |from| {
-        let reader = Reader::new(from, None);
-        snapshots.iter().map(|at| Reader { at: Some(*at), ..reader.clone() }.table_rows(*at)).collect()
-    })
+    let index = Index::of(lake);
+    in_one_list(lake, |from| snapshots.iter().map(|at| Reader { from, at: Some(*at), index: &index }.table_rows(*at)).collect())
 }
 
 /// How many of the first of these snapshots have their rows listed together, by the words that their lists and answers have: one at least.
@@ -87,7 +87,8 @@ pub fn together(lake: &Lake, snapshots: &[SnapshotId]) -> usize {
 
 /// Everything on record, of tables that a call has accepted.
 pub fn on_record(lake: &Lake) -> Result<Vec<Node>, Failure> {
-    let reader = Reader::new(lake, None);
+    let index = Index::of(lake);
+    let reader = Reader { from: lake, at: None, index: &index };
     let mut all = reader.schemas()?;
     all.extend(lake.records().scheduled().map(|one| {
         let node = reader.node("scheduled file", one.uuid.path(), one.uuid.path(), one.file.0);
@@ -102,22 +103,53 @@ fn optional(value: Option<impl ToString>) -> String {
     value.map_or("none".to_string(), |value| value.to_string())
 }
 
-#[derive(Clone)]
+/// The records, each with what it is a part of.
+struct Index {
+    schemas: Vec<Schema>,
+    /// By schema.
+    tables: HashMap<CatalogId, Vec<Table>>,
+    /// By table.
+    columns: HashMap<CatalogId, Vec<Column>>,
+    data_files: HashMap<CatalogId, Vec<DataFile>>,
+    /// By data file.
+    statistics: HashMap<FileId, Vec<Statistics>>,
+    deletes: HashMap<FileId, Vec<(DeleteFile, Vec<u64>)>>,
+}
+
+impl Index {
+    fn of(lake: &Lake) -> Index {
+        let records = lake.records();
+        Index {
+            schemas: records.schemas().collect(),
+            tables: by(records.tables(), |one| one.schema),
+            columns: by(records.columns(), |one| one.table),
+            data_files: by(records.data_files(), |one| one.table),
+            statistics: by(records.statistics(), |one| one.data_file),
+            deletes: by(records.deletes().map(|(one, positions)| (one, positions.to_vec())), |(one, _)| one.data_file),
+        }
+    }
+}
+
+/// Records by a key, in their order.
+fn by<Key: Eq + Hash, Item>(items: impl Iterator<Item = Item>, key: impl Fn(&Item) -> Key) -> HashMap<Key, Vec<Item>> {
+    let mut found: HashMap<Key, Vec<Item>> = HashMap::new();
+    items.for_each(|item| found.entry(key(&item)).or_default().push(item));
+    found
+}
+
+/// Those of a key.
+fn of<Key: Eq + Hash, Item>(index: &HashMap<Key, Vec<Item>>, key: Key) -> impl Iterator<Item = &Item> {
+    index.get(&key).into_iter().flatten()
+}
+
 struct Reader<'a> {
     from: &'a dyn Source,
-    lake: &'a Lake,
     /// None is everything on record.
     at: Option<SnapshotId>,
-    tables: Rc<[Table]>,
-    columns: Rc<[Column]>,
+    index: &'a Index,
 }
 
 impl Reader<'_> {
-    fn new(from: &dyn Source, at: Option<SnapshotId>) -> Reader<'_> {
-        let lake = from.lake();
-        Reader { from, lake, at, tables: lake.records().tables().collect(), columns: lake.records().columns().collect() }
-    }
-
     fn node(&self, kind: &'static str, place: String, name: String, id: u64) -> Node {
         Node { kind, snapshot: self.at.map(|at| at.0), place, name, id, fields: Vec::new(), numbers: None, parts: Vec::new() }
     }
@@ -132,21 +164,25 @@ impl Reader<'_> {
         fields
     }
 
+    /// What a reading lists at the snapshot; none where everything on record is meant.
+    fn listed<Id: Eq + Hash>(&self, list: impl FnOnce(SnapshotId) -> Result<Vec<Id>, Failure>) -> Result<Option<HashSet<Id>>, Failure> {
+        Ok(self.at.map(list).transpose()?.map(|ids| ids.into_iter().collect()))
+    }
+
     fn schemas(&self) -> Result<Vec<Node>, Failure> {
-        let listed = self.at.map(|at| ask::schemas(self.from, at)).transpose()?;
+        let listed = self.listed(|at| ask::schemas(self.from, at))?;
         let mut nodes = Vec::new();
-        for one in self.lake.records().schemas().filter(|one| listed.as_ref().is_none_or(|ids| ids.contains(&one.id))) {
+        for one in self.index.schemas.iter().filter(|one| is_in(&listed, &one.id)) {
             let fields = self.fields(("name", &one.name), one.id.0, &[], one.life);
-            let parts = self.tables(&one)?;
-            nodes.push(Node { fields, parts, ..self.node("schema", one.name.clone(), one.name, one.id.0) });
+            let parts = self.tables(one)?;
+            nodes.push(Node { fields, parts, ..self.node("schema", one.name.clone(), one.name.clone(), one.id.0) });
         }
         Ok(nodes)
     }
 
     fn listed_tables(&self, schema: &Schema) -> Result<Vec<&Table>, Failure> {
-        let listed = self.at.map(|at| ask::tables(self.from, at, schema.id)).transpose()?;
-        let of_schema = self.tables.iter().filter(|one| one.schema == schema.id);
-        Ok(of_schema.filter(|one| listed.as_ref().is_none_or(|ids| ids.contains(&one.id))).collect())
+        let listed = self.listed(|at| ask::tables(self.from, at, schema.id))?;
+        Ok(of(&self.index.tables, schema.id).filter(|one| is_in(&listed, &one.id)).collect())
     }
 
     fn rows(&self, table: &Table) -> Result<Option<(&'static str, Vec<u64>)>, Failure> {
@@ -156,8 +192,8 @@ impl Reader<'_> {
 
     fn table_rows(&self, at: SnapshotId) -> Result<Vec<Node>, Failure> {
         let mut all = Vec::new();
-        for schema in self.lake.records().schemas().filter(|schema| schema.life.is_live_at(at)) {
-            for table in self.listed_tables(&schema)? {
+        for schema in self.index.schemas.iter().filter(|schema| schema.life.is_live_at(at)) {
+            for table in self.listed_tables(schema)? {
                 let node = self.node("table", format!("{}.{}", schema.name, table.name), table.name.clone(), table.id.0);
                 all.push(Node { numbers: self.rows(table)?, ..node });
             }
@@ -181,31 +217,28 @@ impl Reader<'_> {
     }
 
     fn columns(&self, table: &Table, table_place: &str) -> Result<Vec<Node>, Failure> {
-        let listed = self.at.map(|at| ask::columns(self.from, at, table.id)).transpose()?;
-        let of_table = self.columns.iter().filter(|one| one.table == table.id);
+        let listed = self.listed(|at| ask::columns(self.from, at, table.id))?;
         let node = |one: &Column| {
             let own = [("order", one.order.to_string()), ("type", one.column_type.to_string()), ("nulls_allowed", one.nulls_allowed.to_string())];
             let fields = self.fields(("name", &one.name), one.id, &own, one.life);
             Node { fields, ..self.node("column", format!("{table_place}.{}", one.name), one.name.clone(), one.id) }
         };
-        Ok(of_table.filter(|one| listed.as_ref().is_none_or(|ids| ids.contains(&one.id))).map(node).collect())
+        Ok(of(&self.index.columns, table.id).filter(|one| is_in(&listed, &one.id)).map(node).collect())
     }
 
     fn data_files(&self, table: &Table, folder: &str) -> Result<Vec<Node>, Failure> {
-        let listed = self.at.map(|at| ask::files(self.from, at, table.id, None)).transpose()?;
-        let is_listed = |one: &DataFile| listed.as_ref().is_none_or(|pairs| pairs.iter().any(|pair| pair.data_file == one.id));
-        let deletes_of = |one: &DataFile, deletes: &DeleteFile| {
-            deletes.data_file == one.id && listed.as_ref().is_none_or(|pairs| pairs.iter().any(|pair| pair.delete_file == Some(deletes.id)))
-        };
-        let node = |one: DataFile| {
-            let mut parts = self.statistics(&one, folder);
-            let deletes = self.lake.records().deletes().filter(|(deletes, _)| deletes_of(&one, deletes));
-            parts.extend(deletes.map(|(deletes, positions)| self.delete_file(&deletes, positions, folder)));
+        let pairs = self.at.map(|at| ask::files(self.from, at, table.id, None)).transpose()?;
+        let listed: Option<HashSet<FileId>> =
+            pairs.map(|pairs| pairs.iter().flat_map(|pair| [Some(pair.data_file), pair.delete_file]).flatten().collect());
+        let node = |one: &DataFile| {
+            let mut parts = self.statistics(one, folder);
+            let deletes = of(&self.index.deletes, one.id).filter(|(deletes, _)| is_in(&listed, &deletes.id));
+            parts.extend(deletes.map(|(deletes, positions)| self.delete_file(deletes, positions, folder)));
             let own = [("record_count", one.record_count.to_string()), ("row_id_start", one.row_id_start.0.to_string())];
             let fields = self.fields(("path", &one.uuid.path()), one.id.0, &own, one.life);
             Node { fields, parts, ..self.file("data file", one.uuid, folder, one.id.0) }
         };
-        Ok(self.lake.records().data_files().filter(|one| one.table == table.id && is_listed(one)).map(node).collect())
+        Ok(of(&self.index.data_files, table.id).filter(|one| is_in(&listed, &one.id)).map(node).collect())
     }
 
     fn file(&self, kind: &'static str, uuid: Uuid, folder: &str, id: u64) -> Node {
@@ -221,14 +254,19 @@ impl Reader<'_> {
     /// A record for each column; a column's life is its table's.
     fn statistics(&self, file: &DataFile, folder: &str) -> Vec<Node> {
         let column_name = |id: u64| {
-            let found = self.columns.iter().find(|column| column.table == file.table && column.id == id);
+            let found = of(&self.index.columns, file.table).find(|column| column.id == id);
             found.map_or(id.to_string(), |column| column.name.clone())
         };
-        let node = |one: Statistics| {
+        let node = |one: &Statistics| {
             let name = column_name(one.column);
             let fields = vec![("null_count", one.null_count.to_string()), ("min", optional(one.min)), ("max", optional(one.max))];
             Node { fields, ..self.node("statistics", format!("{folder}{}, column {name}", file.uuid.path()), name, one.column) }
         };
-        self.lake.records().statistics_of(file.id).map(node).collect()
+        of(&self.index.statistics, file.id).map(node).collect()
     }
+}
+
+/// Whether something is listed; where nothing was asked, all is.
+fn is_in<Id: Eq + Hash>(listed: &Option<HashSet<Id>>, id: &Id) -> bool {
+    listed.as_ref().is_none_or(|ids| ids.contains(id))
 }

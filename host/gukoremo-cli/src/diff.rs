@@ -9,6 +9,7 @@ use crate::readings::form;
 use crate::refused::ranges;
 use clap::ArgMatches;
 use gukoremo::SnapshotId;
+use std::collections::{HashMap, VecDeque};
 use std::path::PathBuf;
 
 pub fn run(given: &ArgMatches) -> Result<u8, Failure> {
@@ -65,9 +66,11 @@ fn pairs<'a>(a: &'a [Node], b: &'a [Node]) -> Vec<Pair<'a>> {
     let mut found: Vec<Option<usize>> = vec![None; a.len()];
     let mut taken = vec![false; b.len()];
     for (by_name, by_id) in [(true, true), (true, false), (false, true)] {
-        let same = |one: &Node, other: &Node| one.kind == other.kind && (!by_id || one.id == other.id) && (!by_name || one.name == other.name);
+        let key = |node: &'a Node| (node.kind, by_name.then_some(node.name.as_str()), by_id.then_some(node.id));
+        let mut left: HashMap<_, VecDeque<usize>> = HashMap::new();
+        (0..b.len()).filter(|at| !taken[*at]).for_each(|at| left.entry(key(&b[at])).or_default().push_back(at));
         for (one, found) in a.iter().zip(&mut found).filter(|(_, found)| found.is_none()) {
-            *found = (0..b.len()).find(|at| !taken[*at] && same(one, &b[*at]));
+            *found = left.get_mut(&key(one)).and_then(VecDeque::pop_front);
             if let Some(at) = *found {
                 taken[at] = true;
             }

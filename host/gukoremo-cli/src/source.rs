@@ -3,7 +3,7 @@
 use crate::ask::timed;
 use crate::file::Lake;
 use gukoremo::number::COLUMN_LIMIT;
-use gukoremo::{raw, CallList, CatalogId, Column, Counts, Outcome, Refusal, SnapshotId, Table, TablesView};
+use gukoremo::{raw, CallList, CatalogId, Column, Counts, Life, Outcome, Refusal, SnapshotId, Table, TablesView};
 use std::cell::{OnceCell, RefCell};
 use std::collections::{HashMap, HashSet};
 
@@ -54,19 +54,38 @@ impl Reading {
     }
 
     /// Words that the answer has at most; tables that are not sound are refused whatever the area.
-    pub fn most(&self, lake: &Lake) -> u64 {
-        let records = lake.records();
+    pub fn most(&self, sizes: &Sizes) -> u64 {
+        let files = |table: &CatalogId| sizes.files.get(table).map_or(&[][..], Vec::as_slice);
         match self {
             Reading::ByTime(_) | Reading::TableByName(..) => 1,
-            Reading::Schemas(_) => records.schemas().count() as u64,
-            Reading::Tables(_, schema) => records.tables().filter(|table| table.schema == *schema).count() as u64,
+            Reading::Schemas(_) => sizes.schemas,
+            Reading::Tables(_, schema) => sizes.tables.get(schema).copied().unwrap_or(0),
             Reading::Columns(..) => COLUMN_LIMIT as u64,
-            Reading::Files(_, table, _) => 2 * records.data_files().filter(|file| file.table == *table).count() as u64,
+            Reading::Files(_, table, _) => 2 * files(table).len() as u64,
             Reading::Rows(at, table) => {
-                let of_table = records.data_files().filter(|file| file.table == *table && file.life.is_live_at(*at));
-                of_table.fold(0, |sum: u64, file| sum.saturating_add(file.record_count))
+                let live = files(table).iter().filter(|(life, _)| life.is_live_at(*at));
+                live.fold(0, |sum: u64, (_, rows)| sum.saturating_add(*rows))
             }
         }
+    }
+}
+
+/// How much of everything there is on record.
+pub struct Sizes {
+    schemas: u64,
+    /// By schema.
+    tables: HashMap<CatalogId, u64>,
+    /// By table: the life of each data file, and its rows.
+    files: HashMap<CatalogId, Vec<(Life, u64)>>,
+}
+
+impl Sizes {
+    pub fn of(lake: &Lake) -> Sizes {
+        let records = lake.records();
+        let mut sizes = Sizes { schemas: records.schemas().count() as u64, tables: HashMap::new(), files: HashMap::new() };
+        records.tables().for_each(|table| *sizes.tables.entry(table.schema).or_default() += 1);
+        records.data_files().for_each(|file| sizes.files.entry(file.table).or_default().push((file.life, file.record_count)));
+        sizes
     }
 }
 
@@ -85,7 +104,7 @@ impl Source for Lake {
 
     fn answer(&self, reading: &Reading) -> Result<Vec<u64>, Refusal> {
         // more than can be held is asked for with no room at all: if nothing else is amiss, that is the answer
-        let most = reading.most(self);
+        let most = reading.most(&Sizes::of(self));
         let mut area = vec![0; if most <= MOST_WORDS { most as usize } else { 0 }];
         let given = Refusal::judge(timed(|| reading.call(self.view(), self.counts(), &mut area)))?;
         area.truncate(given.length);
@@ -105,7 +124,8 @@ pub fn in_one_list<Given>(lake: &mut Lake, read: impl Fn(&dyn Source) -> Given) 
 
 /// The answers of a list: of a few lists where they have no room in one.
 fn play(lake: &mut Lake, asked: &[Reading]) -> HashMap<Reading, Result<Vec<u64>, Refusal>> {
-    let sized = asked.iter().map(|reading| (reading, reading.most(lake)));
+    let sizes = Sizes::of(lake);
+    let sized = asked.iter().map(|reading| (reading, reading.most(&sizes)));
     let sized: Vec<(&Reading, u64)> = sized.filter(|(_, most)| *most <= LIST_WORDS).collect();
     let mut answers = HashMap::new();
     let mut rest = &sized[..];
