@@ -27,6 +27,11 @@
 //!
 //! Examples at the methods go on from this catalogue.
 //!
+//! # What is proved
+//!
+//! The calls are those of the library that `make library` proves and writes. With the feature `unproved` they are those of the second implementation, for a
+//! machine without the Rattle kit: the outcomes are the same, as far as tests show, and nothing of them is proved. [`raw::OVER`] says which it is.
+//!
 //! # Time and stack
 //!
 //! Each call first checks the tables; a list checks them once, where they are sound and left so by calls. The compiled calls take no heap, and at most 1 MiB
