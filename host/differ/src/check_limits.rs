@@ -1,6 +1,6 @@
 //! What the check says of tables at the limits and one past them: the compiled one and the second implementation.
 
-use crate::contents::{self, CONTENTS, MODULI};
+use crate::contents::{self, CONTENTS, FACTORS};
 use crate::proved;
 use crate::runs;
 use second::lent::{COLUMN_LIMIT, RECORD_LIMIT};
@@ -25,9 +25,10 @@ fn hold(what: &str, words: &Words, counts: &Counts, wanted: u64) -> Result<(), S
 
 /// Each content full; the sample with one record more of each kind in turn; a table with as many columns as it may have, and one more.
 pub fn run() -> Result<String, String> {
-    if let Some(modulus) = MODULI.iter().find(|modulus| !HASHES.contains(&format!("_MODULUS: u64 = {modulus};"))) {
-        return Err(format!("the check has no hash modulo {modulus}, and contents of one hash are made for it"));
+    if let Some(factor) = FACTORS.iter().find(|factor| !HASHES.contains(&format!("_FACTOR: u64 = {factor};"))) {
+        return Err(format!("the check has no hash with the factor {factor}, and contents of one hash are made for it"));
     }
+    contents::have_one_hash()?;
     for content in CONTENTS {
         let (words, counts) = content.tables(RECORD_LIMIT);
         hold(content.says, &words, &counts, 0)?;

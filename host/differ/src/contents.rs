@@ -5,6 +5,7 @@ use gukoremo::record::CREATED_SCHEMA;
 use second::lent::{COLUMN_LIMIT, NAME_SIZE, NUMBER_LIMIT, POSITION_LIMIT, RECORD_LIMIT};
 use second::types::Type;
 use second::{Counts, Words, ABSENT};
+use std::collections::BTreeSet;
 
 /// One record more than a table may have.
 pub const RECORDS: usize = RECORD_LIMIT + 1;
@@ -12,21 +13,28 @@ pub const RECORDS: usize = RECORD_LIMIT + 1;
 /// Rows of a data file and positions of a delete file: together as many positions as may be used.
 pub const ROWS: usize = POSITION_LIMIT / RECORD_LIMIT;
 
-/// The check tells keys apart by their remainders by these, as crates/sorting/src/colliding.rt has them: words that are multiples of both have one hash.
-pub const MODULI: [u64; 2] = [65_521, 65_519];
+/// The check tells keys apart by two hashes, as crates/sorting/src/colliding.rt has them: a word is mixed, one half of it times a factor, and the next
+/// one added; of what comes of the last, mixed once more, some digits are the hash.
+pub const FACTORS: [u64; 2] = [2_654_435_769, 3_266_489_917];
 
-/// Words that leave the same remainder by both: names put together from them have one hash.
-const OF_ONE_HASH: [&[u8; 8]; 8] = [b"batfolxs", b"bisfwdxs", b"byreguvt", b"calendar", b"calmmdij", b"caluldqb", b"catlmlaj", b"cattllib"];
+const fn mixed(word: u64, factor: u64) -> u64 {
+    (word & 0xffff_ffff) * factor + (word >> 32)
+}
 
-const _: () = {
-    let first = u64::from_be_bytes(*OF_ONE_HASH[0]);
-    let mut at = 1;
-    while at < OF_ONE_HASH.len() {
-        let word = u64::from_be_bytes(*OF_ONE_HASH[at]);
-        assert!(word % MODULI[0] == first % MODULI[0] && word % MODULI[1] == first % MODULI[1]);
-        at += 1;
-    }
-};
+fn hashes(words: &[u64]) -> [u64; 2] {
+    FACTORS.map(|factor| mixed(words.iter().fold(0, |digest, word| mixed(digest, factor).wrapping_add(*word)), factor) >> 16 & 0xffff)
+}
+
+/// A word whose lower half is 0 and whose upper half is below 65,536 has the hashes 0: it is mixed to its upper half.
+const fn of_hash_zero(upper: u64) -> u64 {
+    (upper & 0xffff) << 32
+}
+
+/// Names that begin and end with these have one hash, whatever stands between: a byte or two of the upper half of the last word, whose digits are not those
+/// of the hash.
+const BEFORE: &[u8; 26] = b"11111111111111111111111110";
+const AFTER: &[u8; 4] = b"aaaa";
+const NAME_BYTES: &[u8; 63] = b"0123456789ABCDEFGHIJKLMNOPQRSTUVWXYZ_abcdefghijklmnopqrstuvwxyz";
 
 /// Seeds of what is random, beside 1 to 6 for the words of UUIDs.
 const GAPS: u64 = 100;
@@ -43,7 +51,7 @@ enum Ids {
     Dense,
     /// As after expiry.
     Gaps,
-    /// Those of files with gaps and of one hash.
+    /// Those of files of one hash.
     OneHash,
 }
 
@@ -101,6 +109,7 @@ pub const SAMPLE: Content = Content {
 
 const RANDOM: Content = Content { says: "random UUIDs and names", uuids: Uuids::Random, names: Names::Random, ..SAMPLE };
 const OF_FILES: Content = Content { says: "UUIDs and file ids of one hash", ids: Ids::OneHash, uuids: Uuids::OneHash, ..SAMPLE };
+const OF_NAMES: Content = Content { says: "names of one hash", names: Names::OneHash, ..SAMPLE };
 
 pub const CONTENTS: [Content; 10] = [
     SAMPLE,
@@ -110,7 +119,7 @@ pub const CONTENTS: [Content; 10] = [
     Content { says: "as many columns in a table, and delete files of a data file, as may be", wide: true, ..RANDOM },
     Content { says: "delete files of one data file, later ones with lower ids", falling: true, ..SAMPLE },
     OF_FILES,
-    Content { says: "names of one hash", names: Names::OneHash, ..SAMPLE },
+    OF_NAMES,
     Content { says: "one name, lives of one snapshot in any order", names: Names::One, brief: true, ..SAMPLE },
     Content { says: "one hash, one name and later delete files with lower ids, together", names: Names::One, brief: true, falling: true, ..OF_FILES },
 ];
@@ -219,7 +228,7 @@ impl Content {
         match self.ids {
             Ids::Dense => kind * RECORDS as u64 + j as u64,
             Ids::Gaps => gapped(kind, j),
-            Ids::OneHash => gapped(kind, j) * MODULI[0] * MODULI[1],
+            Ids::OneHash => of_hash_zero(3 * j as u64 + kind),
         }
     }
 
@@ -232,7 +241,8 @@ impl Content {
             Uuids::Counting => [seed, j as u64],
             Uuids::Rising => [versioned(1_700_000_000_000 + j as u64, 7), variant],
             Uuids::Random => [versioned(high >> 16, 4), variant],
-            Uuids::OneHash => [high, low].map(|word| (word & 0xffff_ffff) * MODULI[0] * MODULI[1]),
+            // no two alike, since the factor is odd, and in no order
+            Uuids::OneHash => [0, of_hash_zero((seed * RECORDS as u64 + j as u64).wrapping_mul(40_503))],
         }
     }
 
@@ -250,7 +260,12 @@ impl Content {
                 std::array::from_fn(|k| if k < length { byte(k) } else { 0 })
             }
             Names::One => [if i == 0 { b'b' } else { b'a' }; NAME_SIZE],
-            Names::OneHash => std::array::from_fn(|k| OF_ONE_HASH[i >> (3 * (k / 8)) & 7][k % 8]),
+            Names::OneHash => {
+                let between = [i / 63 % 63, i % 63].map(|digit| NAME_BYTES[digit]);
+                let name: Vec<u8> = [&BEFORE[..], &between, AFTER].concat();
+                // the few that are beyond the square begin otherwise, and have another hash
+                std::array::from_fn(|k| if k == 0 && i >= 63 * 63 { b'2' } else { name[k] })
+            }
         }
     }
 }
@@ -273,4 +288,20 @@ pub fn one_table(columns: usize) -> (Vec<u64>, Counts) {
     let words = run(columns, |i| [i as u64 + 1, 0, 0, ABSENT, i as u64, Type::Int64 as u64, 0]);
     let used = Counts { snapshots: RECORD_LIMIT, schemas: RECORD_LIMIT, tables: 1, columns, scheduled: RECORD_LIMIT, ..Counts::default() };
     (words, used)
+}
+
+/// An error where ids, UUIDs or names that are made to have one hash have another.
+pub fn have_one_hash() -> Result<(), String> {
+    let ids = (0..3).flat_map(|kind| (0..RECORDS).map(move |j| vec![OF_FILES.file_id(kind, j)]));
+    let uuids = [1, 3, 5].into_iter().flat_map(|seed| (0..RECORDS).map(move |j| OF_FILES.uuid(seed, j).to_vec()));
+    let name = |i: usize| {
+        let name = OF_NAMES.name(i);
+        let words = name.chunks_exact(8).map(|word| word.iter().fold(0, |word, byte| word << 8 | u64::from(*byte)));
+        [0].into_iter().chain(words).collect::<Vec<u64>>()
+    };
+    let of_one = |keys: &mut dyn Iterator<Item = Vec<u64>>| keys.map(|key| hashes(&key)).collect::<BTreeSet<[u64; 2]>>().len() == 1;
+    match of_one(&mut { ids }) && of_one(&mut { uuids }) && of_one(&mut (0..63 * 63).map(name)) {
+        true => Ok(()),
+        false => Err("contents that are said to have one hash have more".to_string()),
+    }
 }
