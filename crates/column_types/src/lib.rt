@@ -53,17 +53,12 @@ const TYPES: [TypeRange; TYPE_COUNT] = [
     },
 ];
 
-// Where the type of that code stands in the table.
+// Where the type of that code stands in the table: the codes count up from 1, so it is looked for where its code says.
 fn find_type(code: u64) -> Found
     ensures { λ r. ⌜ r ≡ place (λ t. eqb (t .code) code) 0 types ⌝ }
 {
-    let mut i: usize = 0;
-    while i < TYPE_COUNT {
-        let t = TYPES[i];
-        if t.code == code {
-            return Found::At(i);
-        }
-        i += 1;
+    if (0 < code) & (code <= TYPE_COUNT as u64) {
+        return Found::At((code - 1) as usize);
     }
     Found::Nothing
 }

@@ -27,6 +27,24 @@ pub fn columns_near(columns: &[u64], n: usize, table: CatalogId, near: usize) ->
     Block { start, end }
 }
 
+// The same, from the places where its first and its last column may be.
+pub fn columns_between(
+    columns: &[u64],
+    n: usize,
+    table: CatalogId,
+    first: usize,
+    last: usize,
+) -> Block
+    requires { ⌜ ColumnsByTable (now columns) n ⌝ }
+    ensures { λ r. ⌜ Together (field columnSize columnTableWord (now (columns .entry))) n (table .0) (r .start) (r .end) ⌝ }
+{
+    let size = ColumnRecord::SIZE;
+    let word = ColumnRecord::TABLE;
+    let start = count_below(columns, size, word, n, table.0, first);
+    let end = count_through(columns, size, word, n, table.0, last);
+    Block { start, end }
+}
+
 // The columns of a table.
 pub fn columns_of(columns: &[u64], n: usize, table: CatalogId) -> Block
     requires { ⌜ ColumnsByTable (now columns) n ⌝ }
@@ -45,6 +63,24 @@ pub fn statistics_near(statistics: &[u64], n: usize, data_file: FileId, near: us
     let word = StatisticsRecord::DATA_FILE;
     let start = count_below(statistics, size, word, n, data_file.0, near);
     let end = count_through(statistics, size, word, n, data_file.0, start);
+    Block { start, end }
+}
+
+// The same, from the places where its first and its last record may be.
+pub fn statistics_between(
+    statistics: &[u64],
+    n: usize,
+    data_file: FileId,
+    first: usize,
+    last: usize,
+) -> Block
+    requires { ⌜ StatisticsByFile (now statistics) n ⌝ }
+    ensures { λ r. ⌜ Together (field statisticsSize statisticsDataFileWord (now (statistics .entry))) n («data_file» .0) (r .start) (r .end) ⌝ }
+{
+    let size = StatisticsRecord::SIZE;
+    let word = StatisticsRecord::DATA_FILE;
+    let start = count_below(statistics, size, word, n, data_file.0, first);
+    let end = count_through(statistics, size, word, n, data_file.0, last);
     Block { start, end }
 }
 

@@ -19,6 +19,7 @@ use lists::Found;
 use records::snapshot::snapshot_at;
 use runs::fields::count_through;
 use runs::fields::find_field;
+use runs::fields::find_near;
 use runs::probes::interpolate;
 
 // The place of the record of an id.
@@ -43,6 +44,14 @@ pub fn find_table(tables: &[u64], n: usize, id: CatalogId) -> Found
     find_field(tables, TableRecord::SIZE, TableRecord::ID, n, id.0)
 }
 
+// The same: most often it is at `near`.
+pub fn find_table_near(tables: &[u64], n: usize, id: CatalogId, near: usize) -> Found
+    requires { ⌜ TablesById (now tables) n ⌝ }
+    ensures { λ r. ⌜ r ≡ placeOf tableSize tableIdWord (now (tables .entry)) n (id .0) ⌝ }
+{
+    find_near(tables, TableRecord::SIZE, TableRecord::ID, n, id.0, near)
+}
+
 pub fn find_data_file(data_files: &[u64], n: usize, id: FileId) -> Found
     requires { ⌜ DataFilesById (now «data_files») n ⌝ }
     ensures { λ r. ⌜ r ≡ placeOf dataFileSize dataFileIdWord (now («data_files» .entry)) n (id .0) ⌝ }
@@ -53,6 +62,20 @@ pub fn find_data_file(data_files: &[u64], n: usize, id: FileId) -> Found
         DataFileRecord::ID,
         n,
         id.0,
+    )
+}
+
+pub fn find_data_file_near(data_files: &[u64], n: usize, id: FileId, near: usize) -> Found
+    requires { ⌜ DataFilesById (now «data_files») n ⌝ }
+    ensures { λ r. ⌜ r ≡ placeOf dataFileSize dataFileIdWord (now («data_files» .entry)) n (id .0) ⌝ }
+{
+    find_near(
+        data_files,
+        DataFileRecord::SIZE,
+        DataFileRecord::ID,
+        n,
+        id.0,
+        near,
     )
 }
 

@@ -4,4 +4,5 @@ pub mod deletion;
 pub mod find;
 pub mod life;
 pub mod live;
+pub mod places;
 pub mod positions;

@@ -36,8 +36,8 @@ pub fn is_retained(snapshots: &[u64], n: usize, s: SnapshotId) -> bool
 }
 
 // Whether a record of that life is live at some of the numbers that n records of `size` words have in their word `word`: most often at the last one;
-// else at the first one from its begin on, or at none.
-pub fn is_live_among(w: &[u64], size: usize, word: usize, n: usize, l: Life) -> bool
+// else at the first one from its begin on, which is sought from the place `near` on, or at none.
+fn is_live_among_near(w: &[u64], size: usize, word: usize, n: usize, l: Life, near: usize) -> bool
     requires { ⌜ ById size word (now w) n ⌝ }
     ensures { λ r. ⌜ r ≡ liveAmong (fields size word (now (w .entry)) n) (withLife l) ⌝ }
 {
@@ -48,7 +48,6 @@ pub fn is_live_among(w: &[u64], size: usize, word: usize, n: usize, l: Life) -> 
             return true;
         }
     }
-    let near = interpolate(w, size, word, n, l.begin.0);
     let i = count_below(w, size, word, n, l.begin.0, near);
     if n <= i {
         return false;
@@ -57,12 +56,28 @@ pub fn is_live_among(w: &[u64], size: usize, word: usize, n: usize, l: Life) -> 
     is_live(l, SnapshotId(s))
 }
 
-// Whether a record of that life is live at some retained snapshot.
-pub fn is_live_at_some(snapshots: &[u64], n: usize, l: Life) -> bool
+// The same.
+pub fn is_live_among(w: &[u64], size: usize, word: usize, n: usize, l: Life) -> bool
+    requires { ⌜ ById size word (now w) n ⌝ }
+    ensures { λ r. ⌜ r ≡ liveAmong (fields size word (now (w .entry)) n) (withLife l) ⌝ }
+{
+    let near = interpolate(w, size, word, n, l.begin.0);
+    is_live_among_near(w, size, word, n, l, near)
+}
+
+// Whether a record of that life is live at some retained snapshot. The one at its begin most often is at `near`.
+pub fn is_live_at_some(snapshots: &[u64], n: usize, l: Life, near: usize) -> bool
     requires { ⌜ SnapshotsById (now snapshots) n ⌝ }
     ensures { λ r. ⌜ r ≡ liveAtSome (snapshotsIn (now (snapshots .entry)) n) (withLife l) ⌝ }
 {
-    is_live_among(snapshots, SnapshotRecord::SIZE, SnapshotRecord::ID, n, l)
+    is_live_among_near(
+        snapshots,
+        SnapshotRecord::SIZE,
+        SnapshotRecord::ID,
+        n,
+        l,
+        near,
+    )
 }
 
 // Whether an id is that of a record live at s, records of `size` words with a life from the word `life` on.

@@ -178,12 +178,11 @@ fn find_from(w: &[u64], size: usize, at: usize, n: usize, x: u64, near: usize) -
     Found::Nothing
 }
 
-// The same: most ids are where they would be if none were missing.
-pub fn find_field(w: &[u64], size: usize, at: usize, n: usize, x: u64) -> Found
+// The same: most often it is at `near`.
+pub fn find_near(w: &[u64], size: usize, at: usize, n: usize, x: u64, near: usize) -> Found
     requires { ⌜ (size * n ≤ length (now w)) × (at < size) × (chained ltb (fields size at (now w) n) ≡ true) ⌝ }
     ensures { λ r. ⌜ r ≡ place (λ y. eqb y x) 0 (fields size at (now (w .entry)) n) ⌝ }
 {
-    let near = interpolate(w, size, at, n, x);
     if near < n {
         let y = field_at(w, size, at, near);
         if y == x {
@@ -191,4 +190,13 @@ pub fn find_field(w: &[u64], size: usize, at: usize, n: usize, x: u64) -> Found
         }
     }
     find_from(w, size, at, n, x, near)
+}
+
+// The same: most ids are where they would be if none were missing.
+pub fn find_field(w: &[u64], size: usize, at: usize, n: usize, x: u64) -> Found
+    requires { ⌜ (size * n ≤ length (now w)) × (at < size) × (chained ltb (fields size at (now w) n) ≡ true) ⌝ }
+    ensures { λ r. ⌜ r ≡ place (λ y. eqb y x) 0 (fields size at (now (w .entry)) n) ⌝ }
+{
+    let near = interpolate(w, size, at, n, x);
+    find_near(w, size, at, n, x, near)
 }

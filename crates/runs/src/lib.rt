@@ -2,6 +2,7 @@
 // record tell; records, or places of bytes, of which some stay: gaps close, order stays, freed places become 0.
 pub mod fields;
 pub mod flags;
+pub mod hints;
 pub mod kept_bytes;
 pub mod kept_words;
 pub mod pairs;

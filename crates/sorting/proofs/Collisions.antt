@@ -1,69 +1,82 @@
 -- Why places whose hash no other place has can be left out: two whose first words agree have one hash, so both stay.
-use Prim.Native.Nat.{ℕ, zero, suc, _+_, _*_, _-_, _%_, _≤_, _<_, min}
+use Prim.Native.Nat.{ℕ, zero, suc, _+_, _*_, _/_, _%_, _^_, _≤_, _<_, min}
 use mathlib.Core.Path.{_≡_, refl, sym, ap, ap₂, _∙_}
 use mathlib.Core.List.{List, [], _∷_, _++_, map, append-assoc, append-nil}
 use mathlib.Core.Bool.{Bool, true, false, not, _&&_}
 use native.Mathlib.Omega.{arith}
+use native.Mathlib.Nat.{mul-le-mul-left, mul-le-mul-right}
 use native.Mathlib.Numerals.{add-one}
 use lib.Dec.{ltb, eqb}
 use lib.ListN.{length, getD, take, drop, set, length-set, replicate, length-replicate, getD-replicate, drop-of-length-le, List·getD-eq-default}
-use lib.Seq.{take-suc, take-suc-set, drop-cons, take-set-le, take-append-le, drop-set-lt, getD-set-same, getD-set-other, take-all}
-use borrow.Author.Tests.{eqb-true, eqb-false, ne-eqb, eq-eqb, ltb-true, ltb-false, lt-ltb, le-ltb}
+use lib.Seq.{take-suc, take-suc-set, drop-cons, take-set-le, drop-set-lt, getD-set-same, getD-set-other, take-all}
+use borrow.Author.Tests.{eqb-true, eqb-false, eq-eqb, ltb-true, ltb-false, lt-ltb, le-ltb}
 use Rattle.lists.specs.Lists.{all, pairwise, count, filter}
-use Rattle.lists.specs.Runs.{from, field}
+use Rattle.lists.specs.Runs.{from}
 use Rattle.lists.proofs.Tests.{if, clash, same-test}
-use Rattle.lists.proofs.Members.{all-in, in-all, in-filter, in-filter-of, in-getD, in-map-of}
+use Rattle.lists.proofs.Members.{all-in, in-all, in-filter, in-filter-of, in-getD}
 use Rattle.lists.proofs.Counts.{count-append, count-pos, count-map}
 use Rattle.lists.proofs.Loops.{from-step, from-end}
-use Rattle.lists.proofs.Selections.{map-append}
+use Rattle.lists.proofs.Selections.{map-append, all-map}
 use Rattle.sorting.specs.Keys.{sameKey, Keyed}
-use Rattle.sorting.specs.Colliding.{prefixAt, samePrefix, modulus, hashLimit, hashFrom, hashAt, Counted, colliding, Hashes, Thinned}
+use Rattle.sorting.specs.Colliding.{samePrefix, half, mixed, digest, hashLimit, hashed, hashAt, Counted, colliding, Hashes, Kept, Thinned}
 use Rattle.sorting.proofs.KeyOrder.{same-words}
 
 -- ---- hashes
 
-pub hash-next : (m h : ℕ) (f : ℕ → ℕ) (k used : ℕ) {x a r : ℕ} → k < used → x ≡ f k → a ≡ x % m → r ≡ (h * 40503 + a) % m
-    → hashFrom m h (from f k used) ≡ hashFrom m r (from f (k + 1) used)
-unfolding hashFrom
-hash-next m h f k used l p q e = rw (from-step f k used l, e, q, p) refl
+-- a mixed word fits a word: each half is below 2 ^ 32, and so is a factor
+pub mixed-fits : (f h : ℕ) → f < half → h < 2 ^ 64 → h % half * f + h / half < 2 ^ 64
+mixed-fits f h l g =
+    let low : h % half ≤ 4294967295 = omega arith in
+    let high : h / half ≤ 4294967295 = omega (arith, g) in
+    omega (arith, mul-le-mul-right f low, mul-le-mul-left 4294967295 l, high)
 
-pub hash-end : (m h : ℕ) (f : ℕ → ℕ) (k used : ℕ) → used ≤ k → hashFrom m h (from f k used) ≡ h
-unfolding hashFrom
-hash-end m h f k used l = rw (from-end f k used l) refl
+pub digest-next : (second : Bool) (h : ℕ) (f : ℕ → ℕ) (k used : ℕ) {x r : ℕ} → k < used → x ≡ f k → r ≡ (mixed second h + x) % 2 ^ 64
+    → digest second h (from f k used) ≡ digest second r (from f (k + 1) used)
+unfolding digest
+digest-next second h f k used l p e = rw (from-step f k used l, e, p) refl
 
-pub remainder-below : (second : Bool) (x : ℕ) → x % modulus second < hashLimit
-remainder-below true x = omega arith
-remainder-below false x = omega arith
+pub digest-end : (second : Bool) (h : ℕ) (f : ℕ → ℕ) (k used : ℕ) → used ≤ k → digest second h (from f k used) ≡ h
+unfolding digest
+digest-end second h f k used l = rw (from-end f k used l) refl
 
-hash-below : (second : Bool) (h : ℕ) (xs : List ℕ) → h < hashLimit → hashFrom (modulus second) h xs < hashLimit
-unfolding hashFrom
-hash-below second h [] l = l
-hash-below second h (x ∷ xs) l = hash-below second _ xs (remainder-below second (h * 40503 + x % modulus second))
+-- what is f of something is below n where f is, and so hashes are below their limit
+pub all-below : (f : ℕ → ℕ) (n : ℕ) → ((x : ℕ) → f x < n) → (xs : List ℕ) {ys : List ℕ} → ys ≡ map f xs → all (λ h. ltb h n) ys ≡ true
+all-below f n l xs e = rw (e, all-map) (in-all (λ x. ltb (f x) n) xs (λ x m. lt-ltb (f x) n (l x)))
 
--- the hashes of places, each with a count
-pub hashes-below : (second : Bool) (used size : ℕ) (run ps counts : List ℕ) {hashes : List ℕ} → hashes ≡ map (hashAt second used size run) ps → length counts ≡ hashLimit → Hashes hashes counts
-hashes-below second used size run ps counts e l = record {
-  below = rw (e, l) (in-all (λ h. ltb h hashLimit) (map (hashAt second used size run) ps)
-      (λ h m. let p = in-map-of (hashAt second used size run) ps m in rw (p .2) (lt-ltb _ _ (hash-below second 0 (prefixAt used size run (p .0)) (omega arith)))));
-}
+pub hashes-under : (second : Bool) (used size : ℕ) (run ps : List ℕ) {hashes : List ℕ} → hashes ≡ map (hashAt second used size run) ps → all (λ h. ltb h hashLimit) hashes ≡ true
+hashes-under second used size run ps e = all-below (hashAt second used size run) hashLimit (λ p. omega arith) ps e
+
+-- hashes below n, each with one of n counts
+pub hashes-below : {hashes counts : List ℕ} (n : ℕ) → length counts ≡ n → all (λ h. ltb h n) hashes ≡ true → Hashes hashes counts
+hashes-below n l e = record { below = rw l e }
 
 pub hash-in : (hashes counts : List ℕ) (i : ℕ) → Hashes hashes counts → i < length hashes → getD hashes i 0 < length counts
 hash-in hashes counts i b l = ltb-true _ _ (all-in (λ h. ltb h (length counts)) hashes (b .below) (in-getD 0 hashes i l))
 
--- the hashes of the places below i are written
-pub record Hashed (hash : ℕ → ℕ) (w hashes : List ℕ) (i : ℕ) : Type 0 where
-  pub written : take i hashes ≡ map hash (take i w)
+-- ---- a list written over from the front
 
-pub hashed-start : (hash : ℕ → ℕ) (w hashes : List ℕ) → Hashed hash w hashes 0
-hashed-start hash w hashes = record { written = refl }
+-- the elements below i are f of those of another list
+pub record Mapped (f : ℕ → ℕ) (xs ys : List ℕ) (i : ℕ) : Type 0 where
+  pub written : take i ys ≡ map f (take i xs)
 
-pub hashed-next : {hash : ℕ → ℕ} {w hashes : List ℕ} {i h : ℕ} → Hashed hash w hashes i → i < length w → length hashes ≡ length w → h ≡ hash (getD w i 0)
-    → Hashed hash w (set hashes i h) (i + 1)
-hashed-next {w = w} {hashes} {i} t l m e =
-    record { written = rw (add-one, take-suc-set hashes i _ (omega arith), take-suc w i 0 l, map-append, t .written, e) refl }
+pub mapped-start : (f : ℕ → ℕ) (xs ys : List ℕ) → Mapped f xs ys 0
+mapped-start f xs ys = record { written = refl }
 
-pub hashed-end : {hash : ℕ → ℕ} {w hashes : List ℕ} {i : ℕ} → Hashed hash w hashes i → length hashes ≡ length w → length w ≤ i → hashes ≡ map hash w
-hashed-end {w = w} {hashes} {i} t m l = rw (take-all i hashes (omega arith), take-all i w l) at (t .written)
+pub mapped-next : {f : ℕ → ℕ} {xs ys : List ℕ} {i y : ℕ} → Mapped f xs ys i → i < length xs → length ys ≡ length xs → y ≡ f (getD xs i 0)
+    → Mapped f xs (set ys i y) (i + 1)
+mapped-next {xs = xs} {ys} {i} t l m e =
+    record { written = rw (add-one, take-suc-set ys i _ (omega arith), take-suc xs i 0 l, map-append, t .written, e) refl }
+
+pub mapped-end : {f : ℕ → ℕ} {xs ys : List ℕ} {i : ℕ} → Mapped f xs ys i → length ys ≡ length xs → length xs ≤ i → ys ≡ map f xs
+mapped-end {xs = xs} {ys} {i} t m l = rw (take-all i ys (omega arith), take-all i xs l) at (t .written)
+
+-- what is still to be looked at is as it was
+module _ (old w : List ℕ) (i : ℕ) (d : drop i w ≡ drop i old) (e : length w ≡ length old) (l : i < length old) where
+  pub head-kept : getD w i 0 ≡ getD old i 0
+  head-kept = cc (drop-cons w i 0 (omega arith), drop-cons old i 0 l)
+
+  pub rest-kept : (k x : ℕ) → k ≤ i → drop (i + 1) (set w k x) ≡ drop (i + 1) old
+  rest-kept k x h = rw (drop-set-lt (i + 1) w k x (omega arith), add-one) (cc (drop-cons w i 0 (omega arith), drop-cons old i 0 l))
 
 -- ---- counts
 
@@ -73,6 +86,9 @@ counted-none n = record {
   counted = λ h. if (ltb h n) (λ b. getD-replicate n h 0 0 (ltb-true h n b))
       (λ b. List·getD-eq-default (replicate n 0) 0 (rw length-replicate (ltb-false h n b)));
 }
+
+pub counted-most : {hashes counts : List ℕ} → Counted hashes counts → (h : ℕ) → getD counts h 0 ≤ 2
+counted-most p h = omega (arith, p .counted h)
 
 pub counted-next : (hashes counts : List ℕ) (i : ℕ) {c : ℕ} → i < length hashes → getD hashes i 0 < length counts
     → c ≡ min 2 (getD counts (getD hashes i 0) 0 + 1) → Counted (take i hashes) counts → Counted (take (i + 1) hashes) (set counts (getD hashes i 0) c)
@@ -108,23 +124,15 @@ hash-of f w i l e = rw e (of w i l)
     of (x ∷ xs) (suc i) l = of xs i (omega arith)
 
 module _ {hashes counts old w : List ℕ} {i k : ℕ} (m : Moved hashes counts old w i k) (l : i < length old) where
-  heads : getD w i 0 ≡ getD old i 0
-  heads = let d = m .ahead in cc (drop-cons w i 0 (omega (arith, m .long)), drop-cons old i 0 l)
-
-  ahead-next : (x : ℕ) → drop (i + 1) (set w k x) ≡ drop (i + 1) old
-  ahead-next x =
-      let d = m .ahead in
-      rw (drop-set-lt (i + 1) w k x (omega (arith, m .most)), add-one) (cc (drop-cons w i 0 (omega (arith, m .long)), drop-cons old i 0 l))
-
   pub moved-kept : 1 < getD counts (getD hashes i 0) 0 → Moved hashes counts old (set w k (getD w i 0)) (i + 1) (k + 1)
   unfolding filter
   moved-kept h = record {
     most = omega (arith, m .most);
     long = rw length-set (m .long);
-    ahead = ahead-next (getD w i 0);
+    ahead = rest-kept old w i (m .ahead) (m .long) l k (getD w i 0) (m .most);
     front = λ hash e.
         let b : colliding counts (hash (getD old i 0)) ≡ true = rw (← hash-of hash old i l e) (lt-ltb 1 (getD counts (getD hashes i 0) 0) h) in
-        m .front hash e ∙ rw (drop-cons old i 0 l, b, add-one k, take-suc-set w k (getD w i 0) (omega (arith, m .most, m .long)), append-assoc, heads, add-one i) refl;
+        m .front hash e ∙ rw (drop-cons old i 0 l, b, add-one k, take-suc-set w k (getD w i 0) (omega (arith, m .most, m .long)), append-assoc, head-kept old w i (m .ahead) (m .long) l, add-one i) refl;
   }
 
   pub moved-left : getD counts (getD hashes i 0) 0 ≤ 1 → Moved hashes counts old (set w k (getD w i 0)) (i + 1) k
@@ -132,7 +140,7 @@ module _ {hashes counts old w : List ℕ} {i k : ℕ} (m : Moved hashes counts o
   moved-left h = record {
     most = omega (arith, m .most);
     long = rw length-set (m .long);
-    ahead = ahead-next (getD w i 0);
+    ahead = rest-kept old w i (m .ahead) (m .long) l k (getD w i 0) (m .most);
     front = λ hash e.
         let b : colliding counts (hash (getD old i 0)) ≡ false = rw (← hash-of hash old i l e) (le-ltb 1 (getD counts (getD hashes i 0) 0) h) in
         m .front hash e ∙ rw (drop-cons old i 0 l, b, take-set-le k w k (getD w i 0) (omega arith), add-one i) refl;
@@ -166,34 +174,34 @@ module _ (hash : ℕ → ℕ) (q : ℕ → Bool) (R : ℕ → ℕ → Bool) (apa
       let t = kept-pairs xs (λ h l. f h (omega (arith, l))) in
       if (q (hash x)) (λ b. rw b (ap₂ _&&_ (kept-one x xs b) t)) (λ b. rw (b, left-one x xs (f (hash x)) b) t)
 
-pub thinned : (second : Bool) (used size : ℕ) (run w : List ℕ) {hashes counts new : List ℕ} → hashes ≡ map (hashAt second used size run) w → Counted hashes counts
-    → new ≡ filter (λ p. colliding counts (hashAt second used size run p)) w → Thinned size used run w new
-thinned second used size run w {hashes} {counts} e p f = record {
-  decided = λ R s. rw f (kept-pairs hash (colliding counts) R
-      (λ i j d. s i j (if (samePrefix used size run i j) (λ b. absurd (d (ap (hashFrom (modulus second) 0) (same-words _ _ b)))) (λ b. b))) w
-      (λ h l. lt-ltb 1 (getD counts h 0) (omega (arith, p .counted h, count-of h))));
+-- the places whose hash is colliding decide as much as all
+pub kept : (hash : ℕ → ℕ) (w : List ℕ) {hashes counts new : List ℕ} → hashes ≡ map hash w → Counted hashes counts
+    → new ≡ filter (λ p. colliding counts (hash p)) w → Kept hash w new
+kept hash w {hashes} {counts} e p f = record {
+  decided = λ R s. rw f (kept-pairs hash (colliding counts) R s w (λ h l. lt-ltb 1 (getD counts h 0) (omega (arith, p .counted h, count-of h))));
   within = λ P h. rw f (in-all P _ (λ x m. all-in P w h (in-filter-of (λ p. colliding counts (hash p)) w m .0)));
 }
   where
-    hash : ℕ → ℕ
-    hash = hashAt second used size run
-
     count-of : (h : ℕ) → count (eqb h) hashes ≡ count (λ p. eqb h (hash p)) w
     count-of h = rw e (count-map (eqb h) hash w)
 
-pub thinned-none : (size used : ℕ) (run w : List ℕ) → Thinned size used run w w
-thinned-none size used run w = record { decided = λ R s. refl; within = λ P h. h }
+pub kept-whole : (hash : ℕ → ℕ) (w : List ℕ) → Kept hash w w
+kept-whole hash w = record { decided = λ R s. refl; within = λ P h. h }
 
-pub thinned-on : (size used : ℕ) (run : List ℕ) {a b c : List ℕ} → Thinned size used run a b → Thinned size used run b c → Thinned size used run a c
-thinned-on size used run g h = record { decided = λ R s. h .decided R s ∙ g .decided R s; within = λ P k. h .within P (g .within P k) }
+-- where two hashes made from hashes differ, so do these
+pub kept-finer : (g hash : ℕ → ℕ) {old new : List ℕ} → Kept (λ p. g (hash p)) old new → Kept hash old new
+kept-finer g hash k = record { decided = λ R s. k .decided R (λ i j d. s i j (λ e. d (ap g e))); within = k .within }
+
+-- two places whose first words agree have one hash
+pub thinned : (second : Bool) (used size : ℕ) (run : List ℕ) {old new : List ℕ} → Kept (hashAt second used size run) old new → Thinned size used run old new
+thinned second used size run k = record {
+  decided = λ R s. k .decided R
+      (λ i j d. s i j (if (samePrefix used size run i j) (λ b. absurd (d (ap (λ xs. hashed second (digest second 0 xs)) (same-words _ _ b)))) (λ b. b)));
+  within = k .within;
+}
 
 pub thinned-keyed : (size used : ℕ) (run : List ℕ) {a b : List ℕ} → Thinned size used run a b → Keyed size run a → Keyed size run b
 thinned-keyed size used run t h = record { keyed = t .within _ (h .keyed) }
-
--- twice in turn, the second time those that the first left
-pub thinned-twice : (size used : ℕ) (run : List ℕ) {a : List ℕ} (b c rest : List ℕ) (n m : ℕ) → Thinned size used run a (take n b)
-    → length c ≡ length (take n b) → m ≤ length (take n b) → Thinned size used run (take n b) (take m c) → Thinned size used run a (take m (c ++ rest))
-thinned-twice size used run b c rest n m g l h t = rw (take-append-le m c rest (omega arith)) (thinned-on size used run g t)
 
 pub distinct-thinned : (size : ℕ) (run : List ℕ) {a b : List ℕ} → Thinned size size run a b
     → pairwise (λ i j. not (sameKey size run i j)) b ≡ pairwise (λ i j. not (sameKey size run i j)) a

@@ -1,5 +1,5 @@
 -- Hashes of keys; places without those whose hash no other place has.
-use Prim.Native.Nat.{ℕ, _+_, _*_, _%_, min}
+use Prim.Native.Nat.{ℕ, _+_, _*_, _/_, _%_, _^_, min}
 use mathlib.Core.Path.{_≡_}
 use mathlib.Core.List.{List, [], _∷_}
 use mathlib.Core.Bool.{Bool, true, false, cond}
@@ -16,20 +16,34 @@ prefixAt used size run i = from (λ k. field size k run i) 0 used
 abbrev pub samePrefix : ℕ → ℕ → List ℕ → ℕ → ℕ → Bool
 samePrefix used size run i j = sameWords (prefixAt used size run i) (prefixAt used size run j)
 
--- a hash is a remainder by one of two primes: below the limit, the greater of them
-abbrev pub modulus : Bool → ℕ
-modulus second = cond second 65519 65521
+-- a word mixed: one half of it times a factor, and the other half
+abbrev pub half : ℕ
+half = 4294967296
 
+abbrev pub factor : Bool → ℕ
+factor second = cond second 3266489917 2654435769
+
+abbrev pub mixed : Bool → ℕ → ℕ
+mixed second h = h % half * factor second + h / half
+
+-- the digest of words that follow others whose digest is h
+unfoldable pub digest : Bool → ℕ → List ℕ → ℕ
+digest second h [] = h
+digest second h (x ∷ xs) = digest second ((mixed second h + x) % 2 ^ 64) xs
+
+-- a hash is some digits of a digest, mixed once more
 abbrev pub hashLimit : ℕ
-hashLimit = 65521
+hashLimit = 65536
 
--- the hash of the words that follow others whose hash is h
-unfoldable pub hashFrom : ℕ → ℕ → List ℕ → ℕ
-hashFrom m h [] = h
-hashFrom m h (x ∷ xs) = hashFrom m ((h * 40503 + x % m) % m) xs
+-- for some places a hash has fewer digits
+abbrev pub someHashes : ℕ
+someHashes = 4096
+
+abbrev pub hashed : Bool → ℕ → ℕ
+hashed second h = mixed second h / hashLimit % hashLimit
 
 abbrev pub hashAt : Bool → ℕ → ℕ → List ℕ → ℕ → ℕ
-hashAt second used size run i = hashFrom (modulus second) 0 (prefixAt used size run i)
+hashAt second used size run i = hashed second (digest second 0 (prefixAt used size run i))
 
 -- how often each hash occurs, up to twice
 pub record Counted (hashes counts : List ℕ) : Type 0 where
@@ -43,7 +57,12 @@ colliding counts h = ltb 1 (getD counts h 0)
 pub record Hashes (hashes counts : List ℕ) : Type 0 where
   pub below : all (λ h. ltb h (length counts)) hashes ≡ true
 
--- places of which some are left out: what holds of any two whose first `used` words differ is decided by those left
+-- places of which some are left out: what holds of any two with different hashes is decided by those left
+pub record Kept (hash : ℕ → ℕ) (old new : List ℕ) : Type 0 where
+  pub decided : (R : ℕ → ℕ → Bool) → ((i j : ℕ) → (hash i ≡ hash j → ⊥) → R i j ≡ true) → pairwise R new ≡ pairwise R old
+  pub within : (P : ℕ → Bool) → all P old ≡ true → all P new ≡ true
+
+-- the same of any two whose first `used` words differ
 pub record Thinned (size used : ℕ) (run old new : List ℕ) : Type 0 where
   pub decided : (R : ℕ → ℕ → Bool) → ((i j : ℕ) → samePrefix used size run i j ≡ false → R i j ≡ true) → pairwise R new ≡ pairwise R old
   pub within : (P : ℕ → Bool) → all P old ≡ true → all P new ≡ true

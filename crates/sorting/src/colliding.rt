@@ -1,34 +1,58 @@
 ghost use mathlib.Core.Path.{_≡_};
 ghost use mathlib.Core.List.{[], map};
 ghost use mathlib.Core.Bool.{true};
-ghost use Prim.Native.Nat.{ℕ, _+_, _*_, _%_, _≤_, _<_, min};
+ghost use Prim.Native.Nat.{ℕ, _+_, _*_, _%_, _^_, _≤_, _<_, min};
+ghost use lib.Dec.{ltb};
 ghost use lib.ListN.{length, take};
-ghost use Rattle.lists.specs.Lists.{filter};
+ghost use Rattle.lists.specs.Lists.{all, filter};
 ghost use Rattle.sorting.specs.Keys.{Keyed};
-ghost use Rattle.sorting.specs.Colliding.{modulus, hashLimit, hashAt, Counted, colliding, Hashes, Thinned};
+ghost use Rattle.sorting.specs.Colliding.{mixed, hashLimit, someHashes, hashed, hashAt, Counted, colliding, Hashes, Kept, Thinned};
 use runs::fields::field_at;
+use std::num::wrapping_add_u64;
 
 // Two equal keys have one hash: places whose hash no other place has are left out, and on ordinary content few remain.
 
-// A hash is a remainder by one of two primes: below the limit, the greater of them.
-const FIRST_MODULUS: u64 = 65521;
+// A word has two halves, one of which is multiplied. No remainder is taken but by a power of two.
+const HALF: u64 = 4294967296;
 
-const SECOND_MODULUS: u64 = 65519;
+const FIRST_FACTOR: u64 = 2654435769;
 
-const HASH_LIMIT: usize = 65521;
+const SECOND_FACTOR: u64 = 3266489917;
 
-const MULTIPLIER: u64 = 40503;
+// Hashes are below this.
+const HASH_LIMIT: usize = 65536;
+
+// For so few places fewer digits of a hash do, and less scratch.
+const SOME_PLACES: usize = 1024;
+
+const SOME_HASHES: usize = 4096;
 
 // So few places are sorted as quickly as hashed.
 const FEW_PLACES: usize = 64;
 
-fn remainder(x: u64, second: bool) -> u64
-    ensures { λ r. ⌜ (r ≡ x % modulus second) × (r < hashLimit) ⌝ }
+fn mix(h: u64, second: bool) -> u64
+    ensures { λ r. ⌜ r ≡ mixed second h ⌝ }
 {
     if second {
-        return x % SECOND_MODULUS;
+        return h % HALF * SECOND_FACTOR + h / HALF;
     }
-    x % FIRST_MODULUS
+    h % HALF * FIRST_FACTOR + h / HALF
+}
+
+// The digest of words that end with x, from the digest of those before it.
+pub fn absorb(h: u64, x: u64, second: bool) -> u64
+    ensures { λ r. ⌜ r ≡ (mixed second h + x) % 2 ^ 64 ⌝ }
+{
+    let m = mix(h, second);
+    wrapping_add_u64(m, x)
+}
+
+// The hash of words, from their digest.
+pub fn hash(h: u64, second: bool) -> usize
+    ensures { λ r. ⌜ (r ≡ hashed second h) × (r < hashLimit) ⌝ }
+{
+    let m = mix(h, second);
+    (m / (HASH_LIMIT as u64) % (HASH_LIMIT as u64)) as usize
 }
 
 // The hash of the first `used` words of the key at place i.
@@ -40,11 +64,10 @@ fn hash_at(keys: &[u64], size: usize, used: usize, i: usize, second: bool) -> us
     let mut k: usize = 0;
     while k < used {
         let x = field_at(keys, size, k, i);
-        let a = remainder(x, second);
-        h = remainder(h * MULTIPLIER + a, second);
+        h = absorb(h, x, second);
         k += 1;
     }
-    h as usize
+    hash(h, second)
 }
 
 fn hash_places(
@@ -68,12 +91,10 @@ fn hash_places(
 
 // One more, up to two.
 fn one_more(c: u8) -> u8
+    requires { ⌜ c ≤ 2 ⌝ }
     ensures { λ r. ⌜ r ≡ min 2 (c + 1) ⌝ }
 {
-    if c < 2 {
-        return c + 1;
-    }
-    2
+    c + 1 - c / 2
 }
 
 // How often each hash occurs, up to twice.
@@ -111,8 +132,58 @@ fn keep(hashes: &[usize], counts: &[u8], w: &mut [usize]) -> usize
     k
 }
 
-// Of the places in w those whose hash another place has, moved to the front; returns how many they are. v is scratch.
-fn keep_colliding(
+// Hashes with fewer digits.
+fn shorten(hashes: &mut [usize])
+    ensures { λ _. ⌜ now (hashes .exit) ≡ map (λ h. h % someHashes) (now (hashes .entry)) ⌝ }
+{
+    let n = hashes.len();
+    let mut i: usize = 0;
+    while i < n {
+        hashes[i] = hashes[i] % SOME_HASHES;
+        i += 1;
+    }
+}
+
+// The same as `keep_colliding`, for some places and for all.
+fn keep_of_some(hashes: &mut [usize], w: &mut [usize]) -> usize
+    requires { ⌜ length (now hashes) ≡ length (now w) ⌝ }
+    ensures { λ r. ⌜ (length (now (w .exit)) ≡ length (now (w .entry))) × (r ≤ length (now (w .entry)))
+        × ((hash : ℕ → ℕ) → now (hashes .entry) ≡ map hash (now (w .entry)) → Kept hash (now (w .entry)) (take r (now (w .exit)))) ⌝ }
+{
+    let mut counts = [0u8; SOME_HASHES];
+    shorten(hashes);
+    count_hashes(hashes, &mut counts);
+    keep(hashes, &counts, w)
+}
+
+fn keep_of_all(hashes: &mut [usize], w: &mut [usize]) -> usize
+    requires { ⌜ (length (now hashes) ≡ length (now w)) × (all (λ h. ltb h hashLimit) (now hashes) ≡ true) ⌝ }
+    ensures { λ r. ⌜ (length (now (w .exit)) ≡ length (now (w .entry))) × (r ≤ length (now (w .entry)))
+        × ((hash : ℕ → ℕ) → now (hashes .entry) ≡ map hash (now (w .entry)) → Kept hash (now (w .entry)) (take r (now (w .exit)))) ⌝ }
+{
+    let mut counts = [0u8; HASH_LIMIT];
+    count_hashes(hashes, &mut counts);
+    keep(hashes, &counts, w)
+}
+
+// Of the places in w those whose hash another place has, moved to the front; returns how many they are. Few places all stay. The hashes are scratch afterwards.
+pub fn keep_colliding(hashes: &mut [usize], w: &mut [usize]) -> usize
+    requires { ⌜ (length (now hashes) ≡ length (now w)) × (all (λ h. ltb h hashLimit) (now hashes) ≡ true) ⌝ }
+    ensures { λ r. ⌜ (length (now (w .exit)) ≡ length (now (w .entry))) × (r ≤ length (now (w .entry)))
+        × ((hash : ℕ → ℕ) → now (hashes .entry) ≡ map hash (now (w .entry)) → Kept hash (now (w .entry)) (take r (now (w .exit)))) ⌝ }
+{
+    let n = w.len();
+    if n <= FEW_PLACES {
+        return n;
+    }
+    if n <= SOME_PLACES {
+        return keep_of_some(hashes, w);
+    }
+    keep_of_all(hashes, w)
+}
+
+// Leaves out places whose first `used` words no other place has: those left are moved to the front, and it returns how many they are. v is scratch.
+pub fn thin(
     keys: &[u64],
     size: usize,
     used: usize,
@@ -124,22 +195,6 @@ fn keep_colliding(
     ensures { λ r. ⌜ (length (now (w .exit)) ≡ length (now (w .entry))) × (r ≤ length (now (w .entry)))
         × Thinned size used (now (keys .entry)) (now (w .entry)) (take r (now (w .exit))) ⌝ }
 {
-    let mut counts = [0u8; HASH_LIMIT];
     hash_places(keys, size, used, second, w, v);
-    count_hashes(v, &mut counts);
-    keep(v, &counts, w)
-}
-
-// Leaves out places whose first `used` words no other place has: those left are moved to the front, and it returns how many they are. v is scratch.
-pub fn thin(keys: &[u64], size: usize, used: usize, w: &mut [usize], v: &mut [usize]) -> usize
-    requires { ⌜ Keyed size (now keys) (now w) × (used ≤ size) × (length (now v) ≡ length (now w)) ⌝ }
-    ensures { λ r. ⌜ (length (now (w .exit)) ≡ length (now (w .entry))) × (r ≤ length (now (w .entry)))
-        × Thinned size used (now (keys .entry)) (now (w .entry)) (take r (now (w .exit))) ⌝ }
-{
-    let n = w.len();
-    if n <= FEW_PLACES {
-        return n;
-    }
-    let r = keep_colliding(keys, size, used, false, w, v);
-    keep_colliding(keys, size, used, true, &mut w[..r], &mut v[..r])
+    keep_colliding(v, w)
 }

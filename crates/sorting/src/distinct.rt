@@ -26,7 +26,7 @@ fn neighbours_differ(keys: &[u64], size: usize, w: &[usize]) -> bool
 }
 
 // Whether no two of the keys at those places are equal; v is scratch.
-fn places_differ(keys: &[u64], size: usize, w: &mut [usize], v: &mut [usize]) -> bool
+fn sorted_differ(keys: &[u64], size: usize, w: &mut [usize], v: &mut [usize]) -> bool
     requires { ⌜ Keyed size (now keys) (now w) × (length (now v) ≡ length (now w)) ⌝ }
     ensures { λ r. ⌜ r ≡ pairwise (λ i j. not (sameKey size (now (keys .entry)) i j)) (now (w .entry)) ⌝ }
 {
@@ -34,12 +34,21 @@ fn places_differ(keys: &[u64], size: usize, w: &mut [usize], v: &mut [usize]) ->
     neighbours_differ(keys, size, w)
 }
 
-// Whether no two keys, as many as w is long, are equal: those that are alone with their hash need no sort. w and v are scratch.
+// Whether no two of the keys at those places are equal: those that are alone with their second hash need no sort. v is scratch.
+fn places_differ(keys: &[u64], size: usize, w: &mut [usize], v: &mut [usize]) -> bool
+    requires { ⌜ Keyed size (now keys) (now w) × (length (now v) ≡ length (now w)) ⌝ }
+    ensures { λ r. ⌜ r ≡ pairwise (λ i j. not (sameKey size (now (keys .entry)) i j)) (now (w .entry)) ⌝ }
+{
+    let r = thin(keys, size, size, true, w, v);
+    sorted_differ(keys, size, &mut w[..r], &mut v[..r])
+}
+
+// Whether no two keys, as many as w is long, are equal: those that are alone with their first hash need no second. w and v are scratch.
 pub fn keys_differ(keys: &[u64], size: usize, w: &mut [usize], v: &mut [usize]) -> bool
     requires { ⌜ (size * length (now w) ≤ length (now keys)) × (length (now v) ≡ length (now w)) ⌝ }
     ensures { λ r. ⌜ r ≡ pairwise (λ i j. not (sameKey size (now (keys .entry)) i j)) (range 0 (length (now (w .entry)))) ⌝ }
 {
     number(w);
-    let r = thin(keys, size, size, w, v);
+    let r = thin(keys, size, size, false, w, v);
     places_differ(keys, size, &mut w[..r], &mut v[..r])
 }

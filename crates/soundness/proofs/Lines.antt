@@ -64,6 +64,10 @@ by-first b e = rw e refl
 pub by-second : {a b : Bool} → a ≡ true → b ≡ false → (a && b) ≡ false
 by-second e f = rw (e, f) refl
 
+-- and past the first it is the second
+pub after-first : {a : Bool} (b : Bool) → a ≡ true → (a && b) ≡ b
+after-first b e = rw e refl
+
 -- sound is that no line fails
 pub sound-is : (w : Words) (c : Counts) {r : ℕ} → r ≡ firstUnsound w c → eqb r 0 ≡ sound w c
 unfolding sound

@@ -4,11 +4,11 @@ use mathlib.Core.Path.{_≡_}
 use mathlib.Core.Bool.{Bool, true, _&&_, _||_}
 use mathlib.Core.List.{List}
 use native.Mathlib.Omega.{arith}
-use borrow.Author.Tests.{eqb-true}
+use borrow.Author.Tests.{eqb-true, le-leb}
 use lib.Dec.{leb, ltb, eqb}
 use lib.ListN.{length}
 use Rattle.lists.specs.Lists.{all}
-use Rattle.lists.proofs.Tests.{both}
+use Rattle.lists.proofs.Tests.{both, and}
 use Rattle.lists.proofs.Selections.{all-weaken}
 use Rattle.layout.specs.declared.outcome.Counts.{Counts}
 use Rattle.layout.specs.Catalog.{absent, Versioned, Snapshot}
@@ -24,8 +24,9 @@ use Rattle.soundness_fields.specs.Lent.{FieldsLent, IdsLent}
 use Rattle.soundness_fields.proofs.Ids.{IdsFound, ids-found, snapshots-found}
 use Rattle.soundness_lives.specs.Lent.{LivesLent, Nestable}
 use Rattle.soundness_statistics.specs.Checkable.{StatisticsCheckable}
-use Rattle.soundness_unique.specs.Comparable.{FilesHeld, Numbered, Named}
+use Rattle.soundness_unique.specs.Comparable.{FilesLent, Numbered, Named}
 use Rattle.soundness_unique.proofs.NamesGiven.{names-given}
+use Rattle.soundness.specs.Scratch.{noneAbove}
 
 fifth : (a b c d e f g h : Bool) → (a && b && c && d && e && f && g && h) ≡ true → e ≡ true
 fifth a b c d e f g h k = both (a && b && c && d) e (both (a && b && c && d && e) f (both (a && b && c && d && e && f) g (both (a && b && c && d && e && f && g) h k .0) .0) .0) .1
@@ -56,9 +57,15 @@ module _ (w : Words) (c : Counts) where
 
 -- of counts that have room
 module _ (w : Words) (c : Counts) (room : within c (capacity w) ≡ true) where
-  within-limits : (c .schemas ≤ tableLimit) × (c .columns ≤ tableLimit) × (c .scheduled ≤ tableLimit)
+  pub none-above-limit : noneAbove c tableLimit ≡ true
   unfolding capacity
-  within-limits = let k = reflects-within c (capacity w) .to room in omega arith
+  none-above-limit =
+      let k = reflects-within c (capacity w) .to room in
+      let m = held w c room in
+      let schemas : c .schemas ≤ tableLimit = omega arith in
+      let columns : c .columns ≤ tableLimit = omega arith in
+      let scheduled : c .scheduled ≤ tableLimit = omega arith in
+      and (and (and (and (and (le-leb _ _ schemas) (le-leb _ _ (m .tablesMost))) (le-leb _ _ columns)) (le-leb _ _ (m .dataFilesMost))) (le-leb _ _ (m .deleteFilesMost))) (le-leb _ _ scheduled)
 
   snapshots-by-id : snapshotsRise (load w c .snapshots) ≡ true → (0 < c .snapshots) × SnapshotsById (w .snapshots) (c .snapshots)
   unfolding load
@@ -102,6 +109,9 @@ module _ (w : Words) (c : Counts) (room : within c (capacity w) ≡ true) where
       let k = held w c room in
       record { schemas = k .schemas; tables = k .tables; columns = k .columns; dataFiles = k .dataFiles; deleteFiles = k .deleteFiles; statistics = k .statistics }
 
+  pub files-lent : FilesLent (w .dataFiles) (w .deleteFiles) (w .scheduled) c
+  files-lent = let k = held w c room in record { dataFilesLent = k .dataFiles; deleteFilesLent = k .deleteFiles; scheduledLent = k .scheduled }
+
   pub numbered : snapshotsRise (load w c .snapshots) ≡ true → Numbered (w .snapshots) (w .schemas) (w .tables) (w .dataFiles) (w .deleteFiles) (w .scheduled) c
   numbered rise =
       let k = held w c room in
@@ -110,24 +120,13 @@ module _ (w : Words) (c : Counts) (room : within c (capacity w) ≡ true) where
         latest = snapshots-by-id rise .0;
         schemasLent = k .schemas;
         tablesLent = k .tables;
-        filesLent = record { dataFilesLent = k .dataFiles; deleteFilesLent = k .deleteFiles; scheduledLent = k .scheduled };
-      }
-
-  pub files-held : FilesHeld (w .dataFiles) (w .deleteFiles) (w .scheduled) c
-  files-held =
-      let k = held w c room in
-      record {
-        filesLent = record { dataFilesLent = k .dataFiles; deleteFilesLent = k .deleteFiles; scheduledLent = k .scheduled };
-        fewDataFiles = k .dataFilesMost;
-        fewDeleteFiles = k .deleteFilesMost;
-        fewScheduled = within-limits .2;
+        filesLent = files-lent;
       }
 
   pub named : fieldsInRange (load w c) ≡ true → livesSound (load w c) ≡ true → Named (w .schemas) (w .schemaNames) (w .tables) (w .tableNames) (w .columns) (w .columnNames) c
   named fields lives =
       let k = held w c room in
-      let m = within-limits in
-      names-given w c fields lives (k .schemas) (k .schemaNames) (m .0) (k .tables) (k .tableNames) (k .tablesMost) (k .columns) (k .columnNames) (m .1)
+      names-given w c fields lives (k .schemas) (k .schemaNames) (k .tables) (k .tableNames) (k .columns) (k .columnNames)
 
   pub delete-files-lent : deleteFileSize * c .«delete_files» ≤ length (w .deleteFiles)
   delete-files-lent = held w c room .deleteFiles

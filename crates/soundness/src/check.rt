@@ -1,36 +1,326 @@
 ghost use mathlib.Core.Path.{_≡_};
-ghost use Rattle.layout.specs.Lent.{atEntry};
+ghost use mathlib.Core.Bool.{true};
+ghost use Rattle.layout.specs.Lent.{atEntry, lentNow};
+ghost use Rattle.layout.specs.Words.{tableLimit, capacity, within};
 ghost use Rattle.ducklake.specs.Soundness.{firstUnsound};
-use crate::line::COLUMNS_LINE;
-use crate::line::DELETES_LINE;
+ghost use Rattle.soundness.specs.Scratch.{noneAbove, fewRecords, someRecords, Scratch};
+use crate::each_record::records_unsound;
 use crate::line::FIELDS_LINE;
-use crate::line::LIVES_LINE;
-use crate::line::NAMES_LINE;
-use crate::line::NESTING_LINE;
-use crate::line::NEXT_IDS_LINE;
-use crate::line::ORDER_LINE;
-use crate::line::ROWS_LINE;
-use crate::line::SNAPSHOTS_LINE;
 use crate::line::SOUND;
-use crate::line::STATISTICS_LINE;
-use crate::positions::positions_add_up;
+use crate::references::locate_references;
+use crate::relations::compare;
+use crate::relations::relations_unsound;
+use layout::number::TABLE_LIMIT;
 use layout::outcome::Counts;
+use layout::record::SnapshotRecord;
 use refusals::room::capacity;
 use refusals::room::is_within;
-use soundness_deletes::deletes::deletes_sound;
-use soundness_deletes::rows::row_ranges_sound;
-use soundness_fields::order::ids_ascend;
-use soundness_fields::ranges::fields_in_range;
-use soundness_fields::snapshots::snapshots_rise;
-use soundness_lives::lives::lives_sound;
-use soundness_lives::nesting::lives_nest;
-use soundness_statistics::columns::column_counts_sound;
-use soundness_statistics::statistics::statistics_sound;
-use soundness_unique::files::files_distinct;
-use soundness_unique::files::ids_below_next;
-use soundness_unique::naming::names_apart;
+use runs::hints::fill_hints;
 
-// The first line of 'Sound tables' that doesn't hold, or 0: any content of the runs, any counts. A test relies on those before it.
+// Scratch is zeroed before it is used, so tables with few records are given little.
+const FEW_RECORDS: usize = 64;
+
+const SOME_RECORDS: usize = 512;
+
+// Hints for each record of a table.
+const HINTS: usize = 4;
+
+// Whether none of these tables has more records than that.
+fn none_above(counts: Counts, most: usize) -> bool
+    ensures { λ r. ⌜ r ≡ noneAbove counts most ⌝ }
+{
+    (counts.schemas <= most)
+        & (counts.tables <= most)
+        & (counts.columns <= most)
+        & (counts.data_files <= most)
+        & (counts.delete_files <= most)
+        & (counts.scheduled <= most)
+}
+
+// The first line that doesn't hold, where the counts have room. All that is lent after the counts is scratch.
+fn unsound_by(
+    snapshots: &[u64],
+    schemas: &[u64],
+    schema_names: &[u8],
+    tables: &[u64],
+    table_names: &[u8],
+    columns: &[u64],
+    column_names: &[u8],
+    data_files: &[u64],
+    delete_files: &[u64],
+    positions: &[u64],
+    statistics: &[u64],
+    scheduled: &[u64],
+    counts: Counts,
+    keys: &mut [u64],
+    w: &mut [usize],
+    v: &mut [usize],
+    hints: &mut [u16],
+    of_tables: &mut [u16],
+    of_columns: &mut [u16],
+    of_data_files: &mut [u16],
+    of_delete_files: &mut [u16],
+    starts: &mut [u16],
+) -> u64
+    requires { ⌜ (within counts (capacity (lentNow snapshots schemas «schema_names» tables «table_names» columns «column_names»
+        «data_files» «delete_files» positions statistics scheduled)) ≡ true)
+        × Scratch counts (now keys) (now w) (now v) ⌝ }
+    ensures { λ r. ⌜ r ≡ firstUnsound (atEntry snapshots schemas «schema_names» tables «table_names» columns «column_names»
+        «data_files» «delete_files» positions statistics scheduled) counts ⌝ }
+{
+    let scale = fill_hints(
+        snapshots,
+        SnapshotRecord::SIZE,
+        SnapshotRecord::ID,
+        counts.snapshots,
+        hints,
+    );
+    let line = records_unsound(
+        snapshots,
+        schemas,
+        schema_names,
+        tables,
+        table_names,
+        columns,
+        column_names,
+        data_files,
+        delete_files,
+        positions,
+        statistics,
+        scheduled,
+        counts,
+        scale,
+        hints,
+    );
+    if line != SOUND {
+        return line;
+    }
+    locate_references(
+        schemas,
+        tables,
+        columns,
+        data_files,
+        delete_files,
+        counts,
+        hints,
+        of_tables,
+        of_columns,
+        of_data_files,
+        of_delete_files,
+        starts,
+    );
+    let compared = compare(
+        snapshots,
+        schemas,
+        schema_names,
+        tables,
+        table_names,
+        columns,
+        column_names,
+        data_files,
+        delete_files,
+        positions,
+        statistics,
+        scheduled,
+        counts,
+        of_delete_files,
+        keys,
+        w,
+        v,
+    );
+    relations_unsound(
+        snapshots,
+        schemas,
+        schema_names,
+        tables,
+        table_names,
+        columns,
+        column_names,
+        data_files,
+        delete_files,
+        positions,
+        statistics,
+        scheduled,
+        counts,
+        compared,
+        of_tables,
+        of_columns,
+        of_data_files,
+        of_delete_files,
+        starts,
+    )
+}
+
+// The first line that doesn't hold, of tables with few records, with some, and with as many as may be.
+fn few_unsound(
+    snapshots: &[u64],
+    schemas: &[u64],
+    schema_names: &[u8],
+    tables: &[u64],
+    table_names: &[u8],
+    columns: &[u64],
+    column_names: &[u8],
+    data_files: &[u64],
+    delete_files: &[u64],
+    positions: &[u64],
+    statistics: &[u64],
+    scheduled: &[u64],
+    counts: Counts,
+) -> u64
+    requires { ⌜ (within counts (capacity (lentNow snapshots schemas «schema_names» tables «table_names» columns «column_names»
+        «data_files» «delete_files» positions statistics scheduled)) ≡ true)
+        × (noneAbove counts fewRecords ≡ true) ⌝ }
+    ensures { λ r. ⌜ r ≡ firstUnsound (atEntry snapshots schemas «schema_names» tables «table_names» columns «column_names»
+        «data_files» «delete_files» positions statistics scheduled) counts ⌝ }
+{
+    let mut keys = [0u64; 6 * FEW_RECORDS];
+    let mut w = [0usize; 3 * FEW_RECORDS];
+    let mut v = [0usize; 3 * FEW_RECORDS];
+    let mut hints = [0u16; HINTS * FEW_RECORDS];
+    let mut of_tables = [0u16; FEW_RECORDS];
+    let mut of_columns = [0u16; FEW_RECORDS];
+    let mut of_data_files = [0u16; FEW_RECORDS];
+    let mut of_delete_files = [0u16; FEW_RECORDS];
+    let mut starts = [0u16; FEW_RECORDS];
+    unsound_by(
+        snapshots,
+        schemas,
+        schema_names,
+        tables,
+        table_names,
+        columns,
+        column_names,
+        data_files,
+        delete_files,
+        positions,
+        statistics,
+        scheduled,
+        counts,
+        &mut keys,
+        &mut w,
+        &mut v,
+        &mut hints,
+        &mut of_tables,
+        &mut of_columns,
+        &mut of_data_files,
+        &mut of_delete_files,
+        &mut starts,
+    )
+}
+
+fn some_unsound(
+    snapshots: &[u64],
+    schemas: &[u64],
+    schema_names: &[u8],
+    tables: &[u64],
+    table_names: &[u8],
+    columns: &[u64],
+    column_names: &[u8],
+    data_files: &[u64],
+    delete_files: &[u64],
+    positions: &[u64],
+    statistics: &[u64],
+    scheduled: &[u64],
+    counts: Counts,
+) -> u64
+    requires { ⌜ (within counts (capacity (lentNow snapshots schemas «schema_names» tables «table_names» columns «column_names»
+        «data_files» «delete_files» positions statistics scheduled)) ≡ true)
+        × (noneAbove counts someRecords ≡ true) ⌝ }
+    ensures { λ r. ⌜ r ≡ firstUnsound (atEntry snapshots schemas «schema_names» tables «table_names» columns «column_names»
+        «data_files» «delete_files» positions statistics scheduled) counts ⌝ }
+{
+    let mut keys = [0u64; 6 * SOME_RECORDS];
+    let mut w = [0usize; 3 * SOME_RECORDS];
+    let mut v = [0usize; 3 * SOME_RECORDS];
+    let mut hints = [0u16; HINTS * SOME_RECORDS];
+    let mut of_tables = [0u16; SOME_RECORDS];
+    let mut of_columns = [0u16; SOME_RECORDS];
+    let mut of_data_files = [0u16; SOME_RECORDS];
+    let mut of_delete_files = [0u16; SOME_RECORDS];
+    let mut starts = [0u16; SOME_RECORDS];
+    unsound_by(
+        snapshots,
+        schemas,
+        schema_names,
+        tables,
+        table_names,
+        columns,
+        column_names,
+        data_files,
+        delete_files,
+        positions,
+        statistics,
+        scheduled,
+        counts,
+        &mut keys,
+        &mut w,
+        &mut v,
+        &mut hints,
+        &mut of_tables,
+        &mut of_columns,
+        &mut of_data_files,
+        &mut of_delete_files,
+        &mut starts,
+    )
+}
+
+fn all_unsound(
+    snapshots: &[u64],
+    schemas: &[u64],
+    schema_names: &[u8],
+    tables: &[u64],
+    table_names: &[u8],
+    columns: &[u64],
+    column_names: &[u8],
+    data_files: &[u64],
+    delete_files: &[u64],
+    positions: &[u64],
+    statistics: &[u64],
+    scheduled: &[u64],
+    counts: Counts,
+) -> u64
+    requires { ⌜ (within counts (capacity (lentNow snapshots schemas «schema_names» tables «table_names» columns «column_names»
+        «data_files» «delete_files» positions statistics scheduled)) ≡ true)
+        × (noneAbove counts tableLimit ≡ true) ⌝ }
+    ensures { λ r. ⌜ r ≡ firstUnsound (atEntry snapshots schemas «schema_names» tables «table_names» columns «column_names»
+        «data_files» «delete_files» positions statistics scheduled) counts ⌝ }
+{
+    let mut keys = [0u64; 6 * TABLE_LIMIT];
+    let mut w = [0usize; 3 * TABLE_LIMIT];
+    let mut v = [0usize; 3 * TABLE_LIMIT];
+    let mut hints = [0u16; HINTS * TABLE_LIMIT];
+    let mut of_tables = [0u16; TABLE_LIMIT];
+    let mut of_columns = [0u16; TABLE_LIMIT];
+    let mut of_data_files = [0u16; TABLE_LIMIT];
+    let mut of_delete_files = [0u16; TABLE_LIMIT];
+    let mut starts = [0u16; TABLE_LIMIT];
+    unsound_by(
+        snapshots,
+        schemas,
+        schema_names,
+        tables,
+        table_names,
+        columns,
+        column_names,
+        data_files,
+        delete_files,
+        positions,
+        statistics,
+        scheduled,
+        counts,
+        &mut keys,
+        &mut w,
+        &mut v,
+        &mut hints,
+        &mut of_tables,
+        &mut of_columns,
+        &mut of_data_files,
+        &mut of_delete_files,
+        &mut starts,
+    )
+}
+
+// The first line of 'Sound tables' that doesn't hold, or 0: any content of the runs, any counts.
 pub fn first_unsound(
     snapshots: &[u64],
     schemas: &[u64],
@@ -67,7 +357,43 @@ pub fn first_unsound(
     if !held {
         return FIELDS_LINE;
     }
-    let fields = fields_in_range(
+    let few = none_above(counts, FEW_RECORDS);
+    if few {
+        return few_unsound(
+            snapshots,
+            schemas,
+            schema_names,
+            tables,
+            table_names,
+            columns,
+            column_names,
+            data_files,
+            delete_files,
+            positions,
+            statistics,
+            scheduled,
+            counts,
+        );
+    }
+    let some = none_above(counts, SOME_RECORDS);
+    if some {
+        return some_unsound(
+            snapshots,
+            schemas,
+            schema_names,
+            tables,
+            table_names,
+            columns,
+            column_names,
+            data_files,
+            delete_files,
+            positions,
+            statistics,
+            scheduled,
+            counts,
+        );
+    }
+    all_unsound(
         snapshots,
         schemas,
         schema_names,
@@ -77,92 +403,9 @@ pub fn first_unsound(
         column_names,
         data_files,
         delete_files,
+        positions,
         statistics,
         scheduled,
         counts,
-    );
-    if !fields {
-        return FIELDS_LINE;
-    }
-    let rise = snapshots_rise(snapshots, counts.snapshots);
-    if !rise {
-        return SNAPSHOTS_LINE;
-    }
-    let lives = lives_sound(
-        snapshots,
-        schemas,
-        tables,
-        columns,
-        data_files,
-        delete_files,
-        counts,
-    );
-    if !lives {
-        return LIVES_LINE;
-    }
-    let ascend = ids_ascend(
-        schemas,
-        tables,
-        columns,
-        data_files,
-        delete_files,
-        statistics,
-        counts,
-    );
-    if !ascend {
-        return ORDER_LINE;
-    }
-    let below = ids_below_next(
-        snapshots,
-        schemas,
-        tables,
-        data_files,
-        delete_files,
-        scheduled,
-        counts,
-    );
-    if !below {
-        return NEXT_IDS_LINE;
-    }
-    let distinct = files_distinct(data_files, delete_files, scheduled, counts);
-    if !distinct {
-        return NEXT_IDS_LINE;
-    }
-    let nest = lives_nest(schemas, tables, columns, data_files, delete_files, counts);
-    if !nest {
-        return NESTING_LINE;
-    }
-    let apart = names_apart(
-        schemas,
-        schema_names,
-        tables,
-        table_names,
-        columns,
-        column_names,
-        counts,
-    );
-    if !apart {
-        return NAMES_LINE;
-    }
-    let summed = positions_add_up(delete_files, counts.delete_files, counts.positions);
-    if !summed {
-        return DELETES_LINE;
-    }
-    let deletes = deletes_sound(data_files, delete_files, positions, counts);
-    if !deletes {
-        return DELETES_LINE;
-    }
-    let rows = row_ranges_sound(tables, data_files, counts);
-    if !rows {
-        return ROWS_LINE;
-    }
-    let covered = statistics_sound(columns, data_files, statistics, counts);
-    if !covered {
-        return STATISTICS_LINE;
-    }
-    let few = column_counts_sound(tables, columns, counts);
-    if !few {
-        return COLUMNS_LINE;
-    }
-    SOUND
+    )
 }

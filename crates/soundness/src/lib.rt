@@ -1,5 +1,8 @@
 // Which line of 'Sound tables' the lent tables break.
 pub mod check;
 pub mod checked;
+mod each_record;
 pub mod line;
-pub mod positions;
+mod positions;
+mod references;
+mod relations;

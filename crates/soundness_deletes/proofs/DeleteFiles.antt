@@ -1,17 +1,17 @@
 -- Delete files: whether their positions are sound, and how they succeed each other.
-use Prim.Native.Nat.{ℕ, _≤_, _<_}
-use mathlib.Core.Path.{_≡_, refl, sym, ap₂, _∙_}
-use mathlib.Core.Bool.{Bool, true, false, not, _&&_, _||_, and-false}
+use Prim.Native.Nat.{ℕ, _-_, _≤_, _<_}
+use mathlib.Core.Path.{_≡_, refl, sym, ap, ap₂, _∙_}
+use mathlib.Core.Bool.{Bool, true, false, not, _&&_, _||_, and-true, and-false}
 use mathlib.Core.List.{List, [], _∷_, map}
 use native.Mathlib.Omega.{arith}
 use lib.Dec.{leb, ltb, eqb}
-use lib.ListN.{length, take}
-use borrow.Author.Tests.{le-leb, lt-leb, leb-true, ltb-true, eq-eqb, ne-eqb}
+use lib.ListN.{length, getD, take}
+use borrow.Author.Tests.{le-leb, lt-leb, leb-true, ltb-true, lt-ltb, eq-eqb, ne-eqb}
 use Rattle.lists.specs.Lists.{range, all, any, chained, has}
 use Rattle.lists.specs.Runs.{at, field}
 use Rattle.lists.specs.declared.Found.{Found}
 use Rattle.lists.specs.declared.Found.the-variants.{At, Nothing}
-use Rattle.lists.proofs.Tests.{both, and, or-left, or-right}
+use Rattle.lists.proofs.Tests.{if, both, and, or-left, or-right}
 use Rattle.lists.proofs.Members.{each, all-in, in-all}
 use Rattle.lists.proofs.Selections.{any-some, has-trans}
 use Rattle.lists.proofs.Places.{all-at, at-all, any-nowhere}
@@ -49,6 +49,23 @@ pub unsound-empty : (fs : List (Versioned DataFile)) (d : Versioned DeleteFile) 
 unfolding positionsSound
 unsound-empty fs d h = rw (none (d .body .positions) h) refl
 
+-- numbers that ascend are below a limit just where the last is
+last-below : (limit x : ℕ) (xs : List ℕ) → chained ltb (x ∷ xs) ≡ true → all (λ x. ltb x limit) (x ∷ xs) ≡ ltb (getD (x ∷ xs) (length xs) 0) limit
+unfolding all chained
+last-below limit x [] h = and-true (ltb x limit)
+last-below limit x (y ∷ ys) h =
+    let k = both (ltb x y) (chained ltb (y ∷ ys)) h in
+    let e = last-below limit y ys (k .1) in
+    if (all (λ x. ltb x limit) (y ∷ ys))
+    (λ t. rw (lt-ltb x limit (omega (arith, ltb-true x y (k .0), ltb-true y limit (both (ltb y limit) _ t .0)))) e)
+    (λ f. ap (λ b. ltb x limit && b) f ∙ (and-false (ltb x limit) ∙ (sym f ∙ e)))
+
+ascending-below : (limit : ℕ) (xs : List ℕ) → (length xs ≡ 0 → ⊥) → (chained ltb xs && ltb (getD xs (length xs - 1) 0) limit) ≡ (chained ltb xs && all (λ x. ltb x limit) xs)
+ascending-below limit [] z = absurd (z refl)
+ascending-below limit (x ∷ xs) z =
+    let e : length (x ∷ xs) - 1 ≡ length xs = omega arith in
+    if (chained ltb (x ∷ xs)) (λ h. ap (λ b. chained ltb (x ∷ xs) && b) (ap (λ k. ltb (getD (x ∷ xs) k 0) limit) e ∙ sym (last-below limit x xs h))) (λ h. rw h refl)
+
 -- the delete file g, with positions ps, whose data file was sought
 module _ (files : List ℕ) (n : ℕ) (g : DeleteFileRecord) (ps : List ℕ) where
   abbrev allBelow : Versioned DataFile → Bool
@@ -60,12 +77,13 @@ module _ (files : List ℕ) (n : ℕ) (g : DeleteFileRecord) (ps : List ℕ) whe
     unfolding field positionsSound
     unsound-lost h = rw (any-nowhere (dataFileAt files) (λ v. v .id) (g .«data_file» .0) n allBelow p h, and-false) refl
 
-    -- it has so many rows: they ascend, and are below that
-    pub sound-found : {j rows : ℕ} {a b : Bool} → DataFilesById files n → r ≡ At j → rows ≡ at dataFileLayout files j .«record_count» → (length ps ≡ 0 → ⊥)
-        → a ≡ chained ltb ps → b ≡ all (λ p. ltb p rows) ps → (a && b) ≡ positionsSound (dataFilesIn files n) (deleteFileOf g ps)
+    -- it has so many rows: they ascend, and the last is below that
+    pub sound-found : {j rows : ℕ} {a : Bool} → DataFilesById files n → r ≡ At j → rows ≡ at dataFileLayout files j .«record_count» → (length ps ≡ 0 → ⊥)
+        → a ≡ chained ltb ps → (a && ltb (getD ps (length ps - 1) 0) rows) ≡ positionsSound (dataFilesIn files n) (deleteFileOf g ps)
     unfolding field positionsSound
-    sound-found e h l z s t =
-        sym (rw (any-found (dataFileAt files) (λ v. v .id) (g .«data_file» .0) n allBelow (e .ascending) p h, ← l, any-some ps (omega (arith, z)), s, t) refl)
+    sound-found {rows = rows} e h l z s =
+        ap (λ b. b && ltb (getD ps (length ps - 1) 0) rows) s ∙ (ascending-below rows ps z
+        ∙ sym (rw (any-found (dataFileAt files) (λ v. v .id) (g .«data_file» .0) n allBelow (e .ascending) p h, ← l, any-some ps (omega (arith, z))) refl))
 
 -- the test of a delete file and its positions, once both were read
 pub read-sound : (fs : List (Versioned DataFile)) {f g : DeleteFileRecord} {ps qs : List ℕ} {b : Bool}

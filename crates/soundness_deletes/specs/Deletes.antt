@@ -6,8 +6,10 @@ use mathlib.Core.List.{List}
 use lib.Dec.{ltb}
 use lib.ListN.{length, getD}
 use Rattle.lists.specs.Lists.{all, chained}
+use Rattle.lists.specs.Runs.{field}
 use Rattle.layout.specs.declared.outcome.Counts.{Counts}
 use Rattle.layout.specs.Catalog.{Versioned, DeleteFile}
+use Rattle.layout.specs.Fields.{deleteFileSize, deleteFileDataFileWord, deleteFileBeginWord}
 use Rattle.layout.specs.Words.{tableLimit, positionLimit, deleteFileAt, deleteFilesIn}
 use Rattle.ducklake.specs.Soundness.{deleteFilesApart}
 use Rattle.lookup.specs.Order.{DataFilesById}
@@ -20,10 +22,6 @@ beginsBeforeEnd v = ltb (v .begin) (v .end)
 -- "positions ascend strictly"
 abbrev pub positionsAscend : Versioned DeleteFile → Bool
 positionsAscend d = chained ltb (d .body .positions)
-
--- so few delete files take little scratch
-abbrev pub fewDeleteFiles : ℕ
-fewDeleteFiles = 64
 
 -- the delete files at two places
 abbrev pub apartAt : List ℕ → List ℕ → ℕ → ℕ → Bool
@@ -46,13 +44,24 @@ pub record PositionsComparableAt (run positions starts : List ℕ) (i : ℕ) : T
   pub from : PositionsFrom run positions i (getD starts i 0)
   pub ascend : positionsAscend (deleteFileAt run positions i) ≡ true
 
--- n of them with lives that are not empty, and scratch for keys of two words and as many places
+-- n of them with lives that are not empty
 pub record DeletesComparable (run positions starts : List ℕ) (n : ℕ) : Type 0 where
   pub positionsComparable : PositionsComparable run positions starts n
   pub lives : all beginsBeforeEnd (deleteFilesIn run positions n) ≡ true
 
+-- and scratch for keys of two words and as many places
 pub record DeletesSortable (run positions starts : List ℕ) (n : ℕ) (keys w v : List ℕ) : Type 0 where
   pub comparable : DeletesComparable run positions starts n
   pub room : 2 * n ≤ length keys
   pub places : length w ≡ n
   pub scratch : length v ≡ n
+
+-- keys of delete files: the data file, the begin
+abbrev pub deleteKeySize : ℕ
+deleteKeySize = 2
+
+-- keys of n delete files: the data file, the begin
+pub record DeletesKeyed (run : List ℕ) (n : ℕ) (keys : List ℕ) : Type 0 where
+  pub room : 2 * n ≤ length keys
+  pub dataFiles : (i : ℕ) → i < n → field deleteKeySize 0 keys i ≡ field deleteFileSize deleteFileDataFileWord run i
+  pub begins : (i : ℕ) → i < n → field deleteKeySize 1 keys i ≡ field deleteFileSize deleteFileBeginWord run i

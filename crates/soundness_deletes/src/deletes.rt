@@ -1,49 +1,56 @@
 ghost use mathlib.Core.Path.{_≡_};
 ghost use mathlib.Core.Bool.{true};
-ghost use Prim.Native.Nat.{_≤_};
+ghost use Prim.Native.Nat.{_*_, _≤_};
 ghost use lib.Dec.{ltb};
+ghost use lib.ListN.{length};
 ghost use Rattle.lists.specs.Lists.{all, pairwise, chained};
 ghost use Rattle.layout.specs.Catalog.{deleteFileOf};
-ghost use Rattle.layout.specs.Words.{Words, load, tableLimit, dataFilesIn, deleteFileAt, deleteFilesIn};
+ghost use Rattle.layout.specs.Fields.{deleteFileSize};
+ghost use Rattle.layout.specs.Words.{Words, load, dataFilesIn, deleteFileAt, deleteFilesIn};
 ghost use Rattle.ducklake.specs.Soundness.{succeededBy, deleteFilesApart, positionsSound, deletesSound};
 ghost use Rattle.lookup.specs.Order.{DataFilesById};
 ghost use Rattle.lookup.specs.Positions.{PositionsLocated};
-ghost use Rattle.soundness_deletes.specs.Deletes.{fewDeleteFiles, apartAt, DeletesCheckable, DeletesComparable, DeletesSortable, PositionsComparable, PositionsComparableAt};
+ghost use Rattle.soundness_deletes.specs.Deletes.{apartAt, DeletesCheckable, DeletesComparable, DeletesKeyed, DeletesSortable, PositionsComparable, PositionsComparableAt};
 use layout::number::TABLE_LIMIT;
 use layout::outcome::Counts;
 use layout::record::DeleteFileRecord;
 use lists::Found;
-use lookup::find::find_data_file;
+use lookup::find::find_data_file_near;
 use lookup::life::life_at;
 use lookup::positions::position_starts;
 use lookup::positions::positions_of;
 use records::data_file::data_file_record_count;
 use records::delete_file::delete_file_at;
 use records::delete_file::delete_file_data_file;
+use runs::hints::place_at;
 use runs::subset::is_subset;
 use runs::words::words_ascend;
-use runs::words::words_below;
+use sorting::colliding::thin;
 use sorting::keys::put_words;
-use sorting::sort::sort_places;
+use sorting::sort::number;
+use sorting::sort::sort;
 
-// So few delete files take little scratch.
-const FEW_DELETE_FILES: usize = 64;
-
-// "positions ascend strictly below record_count; delete_count is 1 or more", of a delete file and its positions
-fn positions_sound(data_files: &[u64], n: usize, d: DeleteFileRecord, own: &[u64]) -> bool
+// "positions ascend strictly below record_count; delete_count is 1 or more", of a delete file and its positions: where they
+// ascend, the last is the highest. Its data file most often is at `near`.
+fn positions_sound(
+    data_files: &[u64],
+    n: usize,
+    d: DeleteFileRecord,
+    own: &[u64],
+    near: usize,
+) -> bool
     requires { ⌜ DataFilesById (now «data_files») n ⌝ }
     ensures { λ r. ⌜ r ≡ positionsSound (dataFilesIn (now («data_files» .entry)) n) (deleteFileOf d (now (own .entry))) ⌝ }
 {
     if own.len() == 0 {
         return false;
     }
-    let found = find_data_file(data_files, n, d.data_file);
+    let found = find_data_file_near(data_files, n, d.data_file, near);
     match found {
         Found::At(j) => {
             let rows = data_file_record_count(data_files, j);
             let ascending = words_ascend(own);
-            let below = words_below(own, rows);
-            ascending & below
+            ascending & (own[own.len() - 1] < rows)
         }
         Found::Nothing => false,
     }
@@ -56,6 +63,7 @@ fn all_positions_sound(
     positions: &[u64],
     starts: &[usize],
     m: usize,
+    places: &[u16],
 ) -> bool
     requires { ⌜ DataFilesById (now «data_files») n × PositionsLocated (now «delete_files») (now positions) (now starts) m ⌝ }
     ensures { λ r. ⌜ r ≡ all (positionsSound (dataFilesIn (now («data_files» .entry)) n))
@@ -65,7 +73,8 @@ fn all_positions_sound(
     while i < m {
         let d = delete_file_at(delete_files, i);
         let own = positions_of(delete_files, positions, i, starts[i]);
-        let ok = positions_sound(data_files, n, d, own);
+        let near = place_at(places, i);
+        let ok = positions_sound(data_files, n, d, own, near);
         if !ok {
             return false;
         }
@@ -149,8 +158,64 @@ fn neighbours_apart(
     true
 }
 
-// "two delete files of one data file have no common live number; the later holds every position of the earlier": by data file and begin, so that
-// those that follow each other decide. As many as w is long; keys, w and v are scratch.
+// Keys of delete files: the data file, the begin.
+fn put_keys(delete_files: &[u64], n: usize, keys: &mut [u64])
+    requires { ⌜ (deleteFileSize * n ≤ length (now «delete_files»)) × (2 * n ≤ length (now keys)) ⌝ }
+    ensures { λ _. ⌜ DeletesKeyed (now («delete_files» .entry)) n (now (keys .exit)) ⌝ }
+{
+    let size = DeleteFileRecord::SIZE;
+    let data_file = DeleteFileRecord::DATA_FILE;
+    let begin = DeleteFileRecord::BEGIN;
+    put_words(delete_files, size, data_file, n, keys, 2, 0, 0);
+    put_words(delete_files, size, begin, n, keys, 2, 1, 0);
+}
+
+// Whether no two of the delete files at those places clash: by data file and begin, so that those that follow each other decide. v is scratch.
+fn sorted_apart(
+    delete_files: &[u64],
+    positions: &[u64],
+    starts: &[usize],
+    n: usize,
+    keys: &[u64],
+    w: &mut [usize],
+    v: &mut [usize],
+) -> bool
+    requires { ⌜ DeletesComparable (now «delete_files») (now positions) (now starts) n × DeletesKeyed (now «delete_files») n (now keys)
+        × (all (λ p. ltb p n) (now w) ≡ true) × (length (now v) ≡ length (now w)) ⌝ }
+    ensures { λ r. ⌜ r ≡ pairwise (apartAt (now («delete_files» .entry)) (now (positions .entry))) (now (w .entry)) ⌝ }
+{
+    sort(keys, 2, w, v);
+    neighbours_apart(delete_files, positions, starts, n, w)
+}
+
+// The same: those whose data file no other has, by the second hash, need no sort.
+fn places_apart(
+    delete_files: &[u64],
+    positions: &[u64],
+    starts: &[usize],
+    n: usize,
+    keys: &[u64],
+    w: &mut [usize],
+    v: &mut [usize],
+) -> bool
+    requires { ⌜ DeletesComparable (now «delete_files») (now positions) (now starts) n × DeletesKeyed (now «delete_files») n (now keys)
+        × (all (λ p. ltb p n) (now w) ≡ true) × (length (now v) ≡ length (now w)) ⌝ }
+    ensures { λ r. ⌜ r ≡ pairwise (apartAt (now («delete_files» .entry)) (now (positions .entry))) (now (w .entry)) ⌝ }
+{
+    let r = thin(keys, 2, 1, true, w, v);
+    sorted_apart(
+        delete_files,
+        positions,
+        starts,
+        n,
+        keys,
+        &mut w[..r],
+        &mut v[..r],
+    )
+}
+
+// "two delete files of one data file have no common live number; the later holds every position of the earlier": those whose data file no other
+// has, by the first hash, need no second. As many as w is long; keys, w and v are scratch.
 fn delete_files_apart_by(
     delete_files: &[u64],
     positions: &[u64],
@@ -163,83 +228,33 @@ fn delete_files_apart_by(
     requires { ⌜ DeletesSortable (now «delete_files») (now positions) (now starts) n (now keys) (now w) (now v) ⌝ }
     ensures { λ r. ⌜ r ≡ pairwise deleteFilesApart (deleteFilesIn (now («delete_files» .entry)) (now (positions .entry)) n) ⌝ }
 {
-    put_words(
-        delete_files,
-        DeleteFileRecord::SIZE,
-        DeleteFileRecord::DATA_FILE,
-        n,
-        keys,
-        2,
-        0,
-        0,
-    );
-    put_words(
-        delete_files,
-        DeleteFileRecord::SIZE,
-        DeleteFileRecord::BEGIN,
-        n,
-        keys,
-        2,
-        1,
-        0,
-    );
-    sort_places(keys, 2, w, v);
-    neighbours_apart(delete_files, positions, starts, n, w)
-}
-
-fn few_delete_files_apart(
-    delete_files: &[u64],
-    positions: &[u64],
-    starts: &[usize],
-    n: usize,
-) -> bool
-    requires { ⌜ DeletesComparable (now «delete_files») (now positions) (now starts) n × (n ≤ fewDeleteFiles) ⌝ }
-    ensures { λ r. ⌜ r ≡ pairwise deleteFilesApart (deleteFilesIn (now («delete_files» .entry)) (now (positions .entry)) n) ⌝ }
-{
-    let mut keys = [0u64; 2 * FEW_DELETE_FILES];
-    let mut w = [0usize; FEW_DELETE_FILES];
-    let mut v = [0usize; FEW_DELETE_FILES];
-    delete_files_apart_by(
+    put_keys(delete_files, n, keys);
+    number(w);
+    let r = thin(keys, 2, 1, false, w, v);
+    places_apart(
         delete_files,
         positions,
         starts,
         n,
-        &mut keys,
-        &mut w[0..n],
-        &mut v[0..n],
+        keys,
+        &mut w[..r],
+        &mut v[..r],
     )
 }
 
-fn all_delete_files_apart(
-    delete_files: &[u64],
-    positions: &[u64],
-    starts: &[usize],
-    n: usize,
-) -> bool
-    requires { ⌜ DeletesComparable (now «delete_files») (now positions) (now starts) n × (n ≤ tableLimit) ⌝ }
-    ensures { λ r. ⌜ r ≡ pairwise deleteFilesApart (deleteFilesIn (now («delete_files» .entry)) (now (positions .entry)) n) ⌝ }
-{
-    let mut keys = [0u64; 2 * TABLE_LIMIT];
-    let mut w = [0usize; TABLE_LIMIT];
-    let mut v = [0usize; TABLE_LIMIT];
-    delete_files_apart_by(
-        delete_files,
-        positions,
-        starts,
-        n,
-        &mut keys,
-        &mut w[0..n],
-        &mut v[0..n],
-    )
-}
-
+// Of each delete file there is the place where its data file most likely is; keys, w and v are scratch.
 pub fn deletes_sound(
     data_files: &[u64],
     delete_files: &[u64],
     positions: &[u64],
     counts: Counts,
+    places: &[u16],
+    keys: &mut [u64],
+    w: &mut [usize],
+    v: &mut [usize],
 ) -> bool
-    requires { ⌜ DeletesCheckable (now «data_files») (now «delete_files») (now positions) counts ⌝ }
+    requires { ⌜ DeletesCheckable (now «data_files») (now «delete_files») (now positions) counts × (2 * counts .«delete_files» ≤ length (now keys))
+        × (counts .«delete_files» ≤ length (now w)) × (counts .«delete_files» ≤ length (now v)) ⌝ }
     ensures { λ r. ⌜ ((w : Words) → w .dataFiles ≡ now («data_files» .entry) → w .deleteFiles ≡ now («delete_files» .entry)
         → w .positions ≡ now (positions .entry) → r ≡ deletesSound (load w counts)) ⌝ }
 {
@@ -252,12 +267,19 @@ pub fn deletes_sound(
         positions,
         &starts,
         counts.delete_files,
+        places,
     );
     if !ok {
         return false;
     }
-    if counts.delete_files <= FEW_DELETE_FILES {
-        return few_delete_files_apart(delete_files, positions, &starts, counts.delete_files);
-    }
-    all_delete_files_apart(delete_files, positions, &starts, counts.delete_files)
+    let n = counts.delete_files;
+    delete_files_apart_by(
+        delete_files,
+        positions,
+        &starts,
+        n,
+        keys,
+        &mut w[0..n],
+        &mut v[0..n],
+    )
 }

@@ -13,9 +13,10 @@ use layout::number::TABLE_LIMIT;
 use layout::outcome::Counts;
 use layout::record::DataFileRecord;
 use lists::Found;
-use lookup::find::find_table;
+use lookup::find::find_table_near;
 use records::data_file::data_file_at;
 use records::table::table_next_row_id;
+use runs::hints::place_at;
 
 // The row number after the last of a file.
 fn row_id_end(file: DataFileRecord) -> RowId
@@ -25,12 +26,12 @@ fn row_id_end(file: DataFileRecord) -> RowId
     RowId(file.row_id_start.0 + file.record_count)
 }
 
-// Whether the rows of a file "end at or below next_row_id".
-fn rows_in_table(tables: &[u64], n: usize, file: DataFileRecord) -> bool
+// Whether the rows of a file "end at or below next_row_id" of its table, which most often is at `near`.
+fn rows_in_table(tables: &[u64], n: usize, file: DataFileRecord, near: usize) -> bool
     requires { ⌜ TablesById (now tables) n × (dataFileInRange (dataFileOf file) ≡ true) ⌝ }
     ensures { λ r. ⌜ ((names : List ℕ) → r ≡ rowsInTable (tablesIn (now (tables .entry)) names n) (dataFileOf file)) ⌝ }
 {
-    let found = find_table(tables, n, file.table);
+    let found = find_table_near(tables, n, file.table, near);
     match found {
         Found::At(j) => {
             let end = row_id_end(file);
@@ -41,7 +42,7 @@ fn rows_in_table(tables: &[u64], n: usize, file: DataFileRecord) -> bool
     }
 }
 
-fn all_rows_in_tables(tables: &[u64], data_files: &[u64], counts: Counts) -> bool
+fn all_rows_in_tables(tables: &[u64], data_files: &[u64], counts: Counts, places: &[u16]) -> bool
     requires { ⌜ RowRangesCheckable (now tables) (now «data_files») counts ⌝ }
     ensures { λ r. ⌜ ((names : List ℕ) → r ≡ all (rowsInTable (tablesIn (now (tables .entry)) names (counts .tables)))
         (dataFilesIn (now («data_files» .entry)) (counts .«data_files»))) ⌝ }
@@ -49,7 +50,8 @@ fn all_rows_in_tables(tables: &[u64], data_files: &[u64], counts: Counts) -> boo
     let mut i: usize = 0;
     while i < counts.data_files {
         let file = data_file_at(data_files, i);
-        let ok = rows_in_table(tables, counts.tables, file);
+        let near = place_at(places, i);
+        let ok = rows_in_table(tables, counts.tables, file, near);
         if !ok {
             return false;
         }
@@ -59,7 +61,7 @@ fn all_rows_in_tables(tables: &[u64], data_files: &[u64], counts: Counts) -> boo
 }
 
 // Whether the rows of a table's files ascend with the file id and don't overlap: in one pass that notes, for each table, where its rows end.
-fn rows_ascend(tables: &[u64], data_files: &[u64], counts: Counts) -> bool
+fn rows_ascend(tables: &[u64], data_files: &[u64], counts: Counts, places: &[u16]) -> bool
     requires { ⌜ RowRangesCheckable (now tables) (now «data_files») counts
         × ((names : List ℕ)
         → all (rowsInTable (tablesIn (now tables) names (counts .tables))) (dataFilesIn (now «data_files») (counts .«data_files»)) ≡ true) ⌝ }
@@ -69,7 +71,8 @@ fn rows_ascend(tables: &[u64], data_files: &[u64], counts: Counts) -> bool
     let mut i: usize = 0;
     while i < counts.data_files {
         let file = data_file_at(data_files, i);
-        let found = find_table(tables, counts.tables, file.table);
+        let near = place_at(places, i);
+        let found = find_table_near(tables, counts.tables, file.table, near);
         let Found::At(k) = found else {
             return false;
         };
@@ -83,15 +86,16 @@ fn rows_ascend(tables: &[u64], data_files: &[u64], counts: Counts) -> bool
     true
 }
 
+// Of each file there is the place where its table most likely is.
 // "row ranges of a table's files ascend with the file id, don't overlap, and end at or below next_row_id"
-pub fn row_ranges_sound(tables: &[u64], data_files: &[u64], counts: Counts) -> bool
+pub fn row_ranges_sound(tables: &[u64], data_files: &[u64], counts: Counts, places: &[u16]) -> bool
     requires { ⌜ RowRangesCheckable (now tables) (now «data_files») counts ⌝ }
     ensures { λ r. ⌜ ((w : Words) → w .tables ≡ now (tables .entry) → w .dataFiles ≡ now («data_files» .entry)
         → r ≡ rowRangesSound (load w counts)) ⌝ }
 {
-    let ok = all_rows_in_tables(tables, data_files, counts);
+    let ok = all_rows_in_tables(tables, data_files, counts, places);
     if !ok {
         return false;
     }
-    rows_ascend(tables, data_files, counts)
+    rows_ascend(tables, data_files, counts, places)
 }

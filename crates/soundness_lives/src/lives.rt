@@ -18,29 +18,51 @@ use lookup::find::latest_snapshot;
 use lookup::life::Life;
 use lookup::life::life_at;
 use lookup::live::is_live_at_some;
+use runs::hints::Scale;
+use runs::hints::hint;
 
 // "each begin and each end that isn't ABSENT is at most the latest snapshot id; begin < end; every record is live at some retained snapshot"
-fn life_sound(snapshots: &[u64], n: usize, l: Life) -> bool
+fn life_sound(snapshots: &[u64], n: usize, l: Life, near: usize) -> bool
     requires { ⌜ SnapshotsById (now snapshots) n × (0 < n) ⌝ }
     ensures { λ r. ⌜ r ≡ lifeSound (snapshotsIn (now (snapshots .entry)) n) (withLife l) ⌝ }
 {
     let latest = latest_snapshot(snapshots, n);
-    let some = is_live_at_some(snapshots, n, l);
+    let some = is_live_at_some(snapshots, n, l, near);
     (l.begin.0 <= latest.id.0)
         & ((l.end.0 == ABSENT) | (l.end.0 <= latest.id.0))
         & (l.begin.0 < l.end.0)
         & some
 }
 
+// Where the snapshot at the begin of a life may be: one that has not ended is live at the latest, and needs no search.
+fn begin_hint(scale: Scale, hints: &[u16], l: Life) -> usize
+    requires { ⌜ scale .shift < 64 ⌝ }
+{
+    if l.end.0 == ABSENT {
+        return 0;
+    }
+    hint(scale, hints, l.begin.0)
+}
+
 // The same of each of the first k records of a table: records of `size` words with a life from the word `at` on.
-fn all_lives_sound(snapshots: &[u64], n: usize, w: &[u64], size: usize, at: usize, k: usize) -> bool
-    requires { ⌜ SnapshotsById (now snapshots) n × (0 < n) × (size * k ≤ length (now w)) × (at + 1 < size) ⌝ }
+fn all_lives_sound(
+    snapshots: &[u64],
+    n: usize,
+    scale: Scale,
+    hints: &[u16],
+    w: &[u64],
+    size: usize,
+    at: usize,
+    k: usize,
+) -> bool
+    requires { ⌜ SnapshotsById (now snapshots) n × (0 < n) × (scale .shift < 64) × (size * k ≤ length (now w)) × (at + 1 < size) ⌝ }
     ensures { λ r. ⌜ r ≡ all (lifeSound (snapshotsIn (now (snapshots .entry)) n)) (livesIn size at (now (w .entry)) k) ⌝ }
 {
     let mut i: usize = 0;
     while i < k {
         let l = life_at(w, size, at, i);
-        let ok = life_sound(snapshots, n, l);
+        let near = begin_hint(scale, hints, l);
+        let ok = life_sound(snapshots, n, l, near);
         if !ok {
             return false;
         }
@@ -49,7 +71,7 @@ fn all_lives_sound(snapshots: &[u64], n: usize, w: &[u64], size: usize, at: usiz
     true
 }
 
-// The same of every record that has a life.
+// The same of every record that has a life. The hints tell where snapshots may be.
 pub fn lives_sound(
     snapshots: &[u64],
     schemas: &[u64],
@@ -58,8 +80,10 @@ pub fn lives_sound(
     data_files: &[u64],
     delete_files: &[u64],
     counts: Counts,
+    scale: Scale,
+    hints: &[u16],
 ) -> bool
-    requires { ⌜ LivesLent (now snapshots) (now schemas) (now tables) (now columns) (now «data_files») (now «delete_files») counts ⌝ }
+    requires { ⌜ LivesLent (now snapshots) (now schemas) (now tables) (now columns) (now «data_files») (now «delete_files») counts × (scale .shift < 64) ⌝ }
     ensures { λ r. ⌜ ((w : Words)
         → w .snapshots ≡ now (snapshots .entry)
         → w .schemas ≡ now (schemas .entry)
@@ -73,6 +97,8 @@ pub fn lives_sound(
     let a = all_lives_sound(
         snapshots,
         n,
+        scale,
+        hints,
         schemas,
         SchemaRecord::SIZE,
         SchemaRecord::BEGIN,
@@ -81,6 +107,8 @@ pub fn lives_sound(
     let b = all_lives_sound(
         snapshots,
         n,
+        scale,
+        hints,
         tables,
         TableRecord::SIZE,
         TableRecord::BEGIN,
@@ -89,6 +117,8 @@ pub fn lives_sound(
     let c = all_lives_sound(
         snapshots,
         n,
+        scale,
+        hints,
         columns,
         ColumnRecord::SIZE,
         ColumnRecord::BEGIN,
@@ -97,6 +127,8 @@ pub fn lives_sound(
     let d = all_lives_sound(
         snapshots,
         n,
+        scale,
+        hints,
         data_files,
         DataFileRecord::SIZE,
         DataFileRecord::BEGIN,
@@ -105,6 +137,8 @@ pub fn lives_sound(
     let e = all_lives_sound(
         snapshots,
         n,
+        scale,
+        hints,
         delete_files,
         DeleteFileRecord::SIZE,
         DeleteFileRecord::BEGIN,

@@ -18,8 +18,8 @@ use layout::record::DeleteFileRecord;
 use layout::record::SchemaRecord;
 use layout::record::TableRecord;
 use lists::Found;
-use lookup::find::find_data_file;
-use lookup::find::find_table;
+use lookup::find::find_data_file_near;
+use lookup::find::find_table_near;
 use lookup::life::Life;
 use lookup::life::life_at;
 use lookup::life::life_contains;
@@ -29,14 +29,24 @@ use records::data_file::data_file_table;
 use records::delete_file::delete_file_data_file;
 use records::delete_file::delete_file_table;
 use records::table::table_schema;
-use runs::fields::find_field;
+use runs::fields::find_near;
+use runs::hints::place_at;
 
-// Whether the record of an id contains that life: records of `size` words with a life from the word `life` on.
-fn is_held(w: &[u64], size: usize, id_word: usize, life: usize, n: usize, id: u64, l: Life) -> bool
+// Whether the record of an id, most often at `near`, contains that life: records of `size` words with a life from the word `life` on.
+fn is_held(
+    w: &[u64],
+    size: usize,
+    id_word: usize,
+    life: usize,
+    n: usize,
+    id: u64,
+    l: Life,
+    near: usize,
+) -> bool
     requires { ⌜ ById size «id_word» (now w) n × (life + 1 < size) ⌝ }
     ensures { λ r. ⌜ r ≡ any (λ v. eqb (v .id) id && contains v (withLife l)) (versionsIn size «id_word» life (now (w .entry)) n) ⌝ }
 {
-    let found = find_field(w, size, id_word, n, id);
+    let found = find_near(w, size, id_word, n, id, near);
     match found {
         Found::At(i) => {
             let outer = life_at(w, size, life, i);
@@ -47,12 +57,13 @@ fn is_held(w: &[u64], size: usize, id_word: usize, life: usize, n: usize, id: u6
 }
 
 // "a table's life lies within its schema's"
-fn tables_nest(schemas: &[u64], n: usize, tables: &[u64], m: usize) -> bool
+fn tables_nest(schemas: &[u64], n: usize, tables: &[u64], m: usize, places: &[u16]) -> bool
     requires { ⌜ SchemasById (now schemas) n × (tableSize * m ≤ length (now tables)) ⌝ }
     ensures { λ r. ⌜ ((s t : List ℕ) → r ≡ all (tableNests (schemasIn (now (schemas .entry)) s n)) (tablesIn (now (tables .entry)) t m)) ⌝ }
 {
     let mut i: usize = 0;
     while i < m {
+        let near = place_at(places, i);
         let schema = table_schema(tables, i);
         let l = life_at(tables, TableRecord::SIZE, TableRecord::BEGIN, i);
         let ok = is_held(
@@ -63,6 +74,7 @@ fn tables_nest(schemas: &[u64], n: usize, tables: &[u64], m: usize) -> bool
             n,
             schema.0,
             l,
+            near,
         );
         if !ok {
             return false;
@@ -73,13 +85,13 @@ fn tables_nest(schemas: &[u64], n: usize, tables: &[u64], m: usize) -> bool
 }
 
 // "a column's is its table's"
-fn column_nests(tables: &[u64], n: usize, columns: &[u64], i: usize) -> bool
+fn column_nests(tables: &[u64], n: usize, columns: &[u64], i: usize, near: usize) -> bool
     requires { ⌜ TablesById (now tables) n × (columnSize * i + columnSize ≤ length (now columns)) ⌝ }
     ensures { λ r. ⌜ ((t c : List ℕ) → r ≡ columnNests (tablesIn (now (tables .entry)) t n) (columnAt (now (columns .entry)) c i)) ⌝ }
 {
     let table = column_table(columns, i);
     let l = life_at(columns, ColumnRecord::SIZE, ColumnRecord::BEGIN, i);
-    let found = find_table(tables, n, table);
+    let found = find_table_near(tables, n, table, near);
     match found {
         Found::At(j) => {
             let outer = life_at(tables, TableRecord::SIZE, TableRecord::BEGIN, j);
@@ -89,13 +101,14 @@ fn column_nests(tables: &[u64], n: usize, columns: &[u64], i: usize) -> bool
     }
 }
 
-fn columns_nest(tables: &[u64], n: usize, columns: &[u64], m: usize) -> bool
+fn columns_nest(tables: &[u64], n: usize, columns: &[u64], m: usize, places: &[u16]) -> bool
     requires { ⌜ TablesById (now tables) n × (columnSize * m ≤ length (now columns)) ⌝ }
     ensures { λ r. ⌜ ((t c : List ℕ) → r ≡ all (columnNests (tablesIn (now (tables .entry)) t n)) (columnsIn (now (columns .entry)) c m)) ⌝ }
 {
     let mut i: usize = 0;
     while i < m {
-        let ok = column_nests(tables, n, columns, i);
+        let near = place_at(places, i);
+        let ok = column_nests(tables, n, columns, i, near);
         if !ok {
             return false;
         }
@@ -105,12 +118,13 @@ fn columns_nest(tables: &[u64], n: usize, columns: &[u64], m: usize) -> bool
 }
 
 // "a data file's lies within its table's"
-fn data_files_nest(tables: &[u64], n: usize, data_files: &[u64], m: usize) -> bool
+fn data_files_nest(tables: &[u64], n: usize, data_files: &[u64], m: usize, places: &[u16]) -> bool
     requires { ⌜ TablesById (now tables) n × (dataFileSize * m ≤ length (now «data_files»)) ⌝ }
     ensures { λ r. ⌜ ((t : List ℕ) → r ≡ all (dataFileNests (tablesIn (now (tables .entry)) t n)) (dataFilesIn (now («data_files» .entry)) m)) ⌝ }
 {
     let mut i: usize = 0;
     while i < m {
+        let near = place_at(places, i);
         let table = data_file_table(data_files, i);
         let l = life_at(data_files, DataFileRecord::SIZE, DataFileRecord::BEGIN, i);
         let ok = is_held(
@@ -121,6 +135,7 @@ fn data_files_nest(tables: &[u64], n: usize, data_files: &[u64], m: usize) -> bo
             n,
             table.0,
             l,
+            near,
         );
         if !ok {
             return false;
@@ -131,7 +146,13 @@ fn data_files_nest(tables: &[u64], n: usize, data_files: &[u64], m: usize) -> bo
 }
 
 // "a delete file's within its data file's, and their table ids match"
-fn delete_file_nests(data_files: &[u64], n: usize, delete_files: &[u64], i: usize) -> bool
+fn delete_file_nests(
+    data_files: &[u64],
+    n: usize,
+    delete_files: &[u64],
+    i: usize,
+    near: usize,
+) -> bool
     requires { ⌜ DataFilesById (now «data_files») n × (deleteFileSize * i + deleteFileSize ≤ length (now «delete_files»)) ⌝ }
     ensures { λ r. ⌜ ((p : List ℕ) → r ≡ deleteFileNests (dataFilesIn (now («data_files» .entry)) n) (deleteFileAt (now («delete_files» .entry)) p i)) ⌝ }
 {
@@ -143,7 +164,7 @@ fn delete_file_nests(data_files: &[u64], n: usize, delete_files: &[u64], i: usiz
         DeleteFileRecord::BEGIN,
         i,
     );
-    let found = find_data_file(data_files, n, file);
+    let found = find_data_file_near(data_files, n, file, near);
     match found {
         Found::At(j) => {
             let of_file = data_file_table(data_files, j);
@@ -155,14 +176,21 @@ fn delete_file_nests(data_files: &[u64], n: usize, delete_files: &[u64], i: usiz
     }
 }
 
-fn delete_files_nest(data_files: &[u64], n: usize, delete_files: &[u64], m: usize) -> bool
+fn delete_files_nest(
+    data_files: &[u64],
+    n: usize,
+    delete_files: &[u64],
+    m: usize,
+    places: &[u16],
+) -> bool
     requires { ⌜ DataFilesById (now «data_files») n × (deleteFileSize * m ≤ length (now «delete_files»)) ⌝ }
     ensures { λ r. ⌜ ((p : List ℕ)
         → r ≡ all (deleteFileNests (dataFilesIn (now («data_files» .entry)) n)) (deleteFilesIn (now («delete_files» .entry)) p m)) ⌝ }
 {
     let mut i: usize = 0;
     while i < m {
-        let ok = delete_file_nests(data_files, n, delete_files, i);
+        let near = place_at(places, i);
+        let ok = delete_file_nests(data_files, n, delete_files, i, near);
         if !ok {
             return false;
         }
@@ -171,7 +199,8 @@ fn delete_files_nest(data_files: &[u64], n: usize, delete_files: &[u64], m: usiz
     true
 }
 
-// Every record's life stands to that of the record it belongs to as it should.
+// Every record's life stands to that of the record it belongs to as it should. Of the records of each kind there are the places where those that they belong to
+// most likely are.
 pub fn lives_nest(
     schemas: &[u64],
     tables: &[u64],
@@ -179,6 +208,10 @@ pub fn lives_nest(
     data_files: &[u64],
     delete_files: &[u64],
     counts: Counts,
+    of_tables: &[u16],
+    of_columns: &[u16],
+    of_data_files: &[u16],
+    of_delete_files: &[u16],
 ) -> bool
     requires { ⌜ Nestable (now schemas) (now tables) (now columns) (now «data_files») (now «delete_files») counts ⌝ }
     ensures { λ r. ⌜ ((w : Words)
@@ -189,14 +222,21 @@ pub fn lives_nest(
         → w .deleteFiles ≡ now («delete_files» .entry)
         → r ≡ livesNest (load w counts)) ⌝ }
 {
-    let a = tables_nest(schemas, counts.schemas, tables, counts.tables);
-    let b = columns_nest(tables, counts.tables, columns, counts.columns);
-    let c = data_files_nest(tables, counts.tables, data_files, counts.data_files);
+    let a = tables_nest(schemas, counts.schemas, tables, counts.tables, of_tables);
+    let b = columns_nest(tables, counts.tables, columns, counts.columns, of_columns);
+    let c = data_files_nest(
+        tables,
+        counts.tables,
+        data_files,
+        counts.data_files,
+        of_data_files,
+    );
     let d = delete_files_nest(
         data_files,
         counts.data_files,
         delete_files,
         counts.delete_files,
+        of_delete_files,
     );
     a & b & c & d
 }

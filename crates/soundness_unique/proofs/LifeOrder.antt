@@ -7,19 +7,20 @@ use mathlib.Core.Logic.{_⊎_, inl, inr}
 use native.Mathlib.Omega.{arith}
 use lib.Dec.{leb, ltb, eqb}
 use lib.ListN.{length, getD}
-use borrow.Author.Tests.{ltb-true, lt-ltb, le-ltb, eqb-true, le-leb, leb-true, leb-false, not-true}
-use Rattle.lists.specs.Lists.{pairwise, chained, all}
+use borrow.Author.Tests.{ltb-true, lt-ltb, le-ltb, eqb-true, eq-eqb, le-leb, leb-true, leb-false, not-true}
+use Rattle.lists.specs.Lists.{range, pairwise, chained, all}
 use Rattle.lists.specs.Runs.{from, field}
 use Rattle.lists.proofs.Tests.{Reflects, if, either, both, and, clash, or-left, or-right, or-cases, reflects-it, reflects-implies}
 use Rattle.lists.proofs.Loops.{from-step, from-end, from-length}
+use Rattle.lists.proofs.Members.{in-all, in-range}
 use Rattle.lists.proofs.Places.{from-split}
 use Rattle.ducklake.specs.Soundness.{overlap}
-use Rattle.sorting.specs.Colliding.{prefixAt, samePrefix, Thinned}
+use Rattle.sorting.specs.Colliding.{prefixAt, samePrefix, Kept, Thinned}
 use Rattle.sorting.specs.Keys.{keyAt, atMost, sameWords, inOrder, Keyed}
 use Rattle.sorting.specs.Sorting.{Permutes}
 use Rattle.sorting.proofs.Groups.{groups-sorted}
 use Rattle.sorting.proofs.KeyOrder.{same-words, same-swap, most-between, order-trans}
-use Rattle.soundness_unique.specs.Naming.{keysApart, LivesKeyed}
+use Rattle.soundness_unique.specs.Naming.{keysApart, Living, keyedAt, LivesKeyed}
 
 -- a word more behind lists of one length: the lists are in order, and where they are equal so are the words
 most-before : (xs ys : List ℕ) (x y : ℕ) → length xs ≡ length ys → atMost (xs ++ (x ∷ [])) (ys ++ (y ∷ [])) ≡ true → (atMost xs ys ≡ true) × (xs ≡ ys → x ≤ y)
@@ -49,7 +50,7 @@ apart-told b e c f = record {
   from = λ h. either h (λ k. rw (le-ltb c e (leb-true e c k), and-false)) (λ k. rw (le-ltb b f (leb-true f b k)));
 }
 
-module _ (used : ℕ) (keys : List ℕ) (size begin : ℕ) (run : List ℕ) {n : ℕ} (h : LivesKeyed used keys size begin run n) where
+module _ (used : ℕ) (keys : List ℕ) (size begin : ℕ) (run : List ℕ) {n : ℕ} (h : Living size begin run n) where
   abbrev first-words : ℕ → List ℕ
   first-words i = prefixAt used (used + 1) keys i
 
@@ -82,26 +83,39 @@ module _ (used : ℕ) (keys : List ℕ) (size begin : ℕ) (run : List ℕ) {n :
   flip i j =
       ap₂ (λ s t. not s || not t) (same-swap (first-words i) (first-words j)) (and-comm (ltb (starts i) (ends j)) (ltb (starts j) (ends i)))
 
-  lives : (i : ℕ) → ltb i n ≡ true → starts i < ends i
-  lives i k = h .living .lives i (ltb-true i n k)
+  keyed : (i : ℕ) → keyedAt used keys size begin run n i ≡ true → (i < n) × (last-word i ≡ starts i)
+  keyed i k = let b = both (ltb i n) (eqb (last-word i) (starts i)) k in (ltb-true i n (b .0), eqb-true (last-word i) (starts i) (b .1))
+
+  lives : (i : ℕ) → keyedAt used keys size begin run n i ≡ true → starts i < ends i
+  lives i k = h .lives i (keyed i k .0)
 
   -- of two in order, the first begins first
-  forward : (i j : ℕ) → ltb i n ≡ true → ltb j n ≡ true → inOrder (used + 1) keys i j ≡ true → samePrefix used (used + 1) keys i j ≡ true
-      → leb (ends j) (starts i) ≡ true → leb (ends i) (starts j) ≡ true
+  forward : (i j : ℕ) → keyedAt used keys size begin run n i ≡ true → keyedAt used keys size begin run n j ≡ true → inOrder (used + 1) keys i j ≡ true
+      → samePrefix used (used + 1) keys i j ≡ true → leb (ends j) (starts i) ≡ true → leb (ends i) (starts j) ≡ true
   forward i j k l o e b =
-      absurd (omega (arith, order-told i j o .1 (same-words (first-words i) (first-words j) e), h .begins i (ltb-true i n k), h .begins j (ltb-true j n l), leb-true (ends j) (starts i) b, lives j l))
+      absurd (omega (arith, order-told i j o .1 (same-words (first-words i) (first-words j) e), keyed i k .1, keyed j l .1, leb-true (ends j) (starts i) b, lives j l))
 
-  pub lives-sorted : {xs ys : List ℕ} → all (λ p. ltb p n) xs ≡ true → Permutes ys xs → chained (inOrder (used + 1) keys) ys ≡ true
+  pub lives-sorted : {xs ys : List ℕ} → all (keyedAt used keys size begin run n) xs ≡ true → Permutes ys xs → chained (inOrder (used + 1) keys) ys ≡ true
       → chained (keysApart used keys size begin run) ys ≡ pairwise (keysApart used keys size begin run) xs
   lives-sorted {xs} {ys} w p o =
-      groups-sorted (inOrder (used + 1) keys) (keysApart used keys size begin run) (samePrefix used (used + 1) keys) (λ i j. leb (ends i) (starts j)) (λ p. ltb p n)
+      groups-sorted (inOrder (used + 1) keys) (keysApart used keys size begin run) (samePrefix used (used + 1) keys) (λ i j. leb (ends i) (starts j)) (keyedAt used keys size begin run n)
       (order-trans (used + 1) keys) told flip (λ a b c k l. same-between (first-words a) (first-words b) (first-words c) (order-told a b k .0) (order-told b c l .0))
       forward (λ a b c k s t. le-leb (ends a) (starts c) (omega (arith, leb-true (ends a) (starts b) s, leb-true (ends b) (starts c) t, lives b k))) xs ys p w o
 
-  -- and so where some places were left out
-  pub lives-thinned : {xs ys : List ℕ} → Thinned (used + 1) used keys xs ys → pairwise (keysApart used keys size begin run) ys ≡ pairwise (keysApart used keys size begin run) xs
-  lives-thinned t = t .decided (keysApart used keys size begin run) (λ i j e. rw e refl)
+-- and so where some places were left out
+pub lives-thinned : (used : ℕ) (keys : List ℕ) (size begin : ℕ) (run : List ℕ) {xs ys : List ℕ} → Thinned (used + 1) used keys xs ys
+    → pairwise (keysApart used keys size begin run) ys ≡ pairwise (keysApart used keys size begin run) xs
+lives-thinned used keys size begin run t = t .decided (keysApart used keys size begin run) (λ i j e. rw e refl)
 
--- records at the places that are left
+-- records that all have keys
+pub keyed-all : (used : ℕ) (keys : List ℕ) (size begin : ℕ) (run : List ℕ) (n : ℕ) → LivesKeyed used keys size begin run n → all (keyedAt used keys size begin run n) (range 0 n) ≡ true
+keyed-all used keys size begin run n h =
+    in-all (keyedAt used keys size begin run n) (range 0 n)
+    (λ i m. let l : i < n = omega (arith, in-range 0 n m) in and (lt-ltb i n l) (eq-eqb (field (used + 1) used keys i) (field size begin run i) (h .begins i l)))
+
+-- records and keys at the places that are left
 pub thinned-lent : (size : ℕ) (run : List ℕ) {width used : ℕ} {keys a b : List ℕ} → Thinned width used keys a b → Keyed size run a → Keyed size run b
 thinned-lent size run t k = record { keyed = t .within (λ p. leb (size * p + size) (length run)) (k .keyed) }
+
+pub kept-lent : (size : ℕ) (run : List ℕ) {hash : ℕ → ℕ} {a b : List ℕ} → Kept hash a b → Keyed size run a → Keyed size run b
+kept-lent size run t k = record { keyed = t .within (λ p. leb (size * p + size) (length run)) (k .keyed) }

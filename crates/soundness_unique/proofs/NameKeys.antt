@@ -1,16 +1,17 @@
 -- The keys of names and of orders: equal but for the begin where group and name, or table and order, are equal.
-use Prim.Native.Nat.{ℕ, zero, suc, _+_, _*_, _≤_, _<_}
-use mathlib.Core.Path.{_≡_, refl, sym, ap, _∙_}
+use Prim.Native.Nat.{ℕ, _+_, _*_, _%_, _^_, _≤_, _<_}
+use mathlib.Core.Path.{_≡_, refl, sym, ap, ap₂, _∙_}
 use mathlib.Core.Bool.{Bool, true, false, not, _&&_, _||_, and-true}
-use mathlib.Core.List.{List, [], _∷_}
+use mathlib.Core.List.{List, [], _∷_, map}
 use native.Mathlib.Nat.{zero-add}
 use native.Mathlib.Omega.{arith}
-use lib.Dec.{eqb}
-use lib.ListN.{length, getD, set, replicate}
-use borrow.Author.Tests.{ltb-true}
+use lib.Dec.{ltb, eqb}
+use lib.ListN.{length, getD, take, length-map}
+use borrow.Author.Tests.{ltb-true, lt-ltb, eqb-true, eq-eqb}
 use Rattle.lists.specs.Lists.{range, all, pairwise, agree}
 use Rattle.lists.specs.Runs.{field}
-use Rattle.lists.proofs.Members.{In, in-range}
+use Rattle.lists.proofs.Tests.{if, both, and}
+use Rattle.lists.proofs.Members.{In, all-in, in-all, in-range}
 use Rattle.lists.proofs.Places.{all-at}
 use Rattle.lists.proofs.Selections.{all-both, pairwise-ext, pairwise-map}
 use Rattle.layout.specs.declared.outcome.Counts.{Counts}
@@ -18,65 +19,25 @@ use Rattle.layout.specs.Fields.{schemaSize, schemaBeginWord, tableSize, tableBe
 use Rattle.layout.specs.Names.{nameAt, sameName}
 use Rattle.layout.specs.Words.{schemaAt, schemasIn, tableAt, tablesIn, columnAt, columnsIn}
 use Rattle.ducklake.specs.Soundness.{overlap, schemasApart, tablesApart, columnsApart}
-use Rattle.names.specs.NameWords.{nameWordCount, nameWord, nameWords}
+use Rattle.names.specs.NameWords.{nameWord, nameWords}
 use Rattle.names.proofs.NameWords.{words-agree}
-use Rattle.sorting.specs.Colliding.{prefixAt, samePrefix}
+use Rattle.sorting.specs.Colliding.{prefixAt, samePrefix, mixed, digest, hashLimit, hashed, Kept}
 use Rattle.sorting.specs.Keys.{Put}
-use Rattle.sorting.proofs.Putting.{put-next}
+use Rattle.sorting.proofs.Collisions.{all-below}
+use Rattle.sorting.proofs.Groups.{within-range}
+use Rattle.sorting.proofs.KeyOrder.{same-words}
 use Rattle.soundness_unique.specs.declared.naming.Group.{Group}
 use Rattle.soundness_unique.specs.declared.naming.Group.the-variants.{All, With}
-use Rattle.soundness_unique.specs.Naming.{nameKeySize, nameKeyBegin, orderKeySize, orderKeyBegin, groupOf, isInside, liveTogether, keysApart, namesApartAt, ordersApartAt, Living, LivesKeyed, NamesLiving, GroupPut, NamesPut}
+use Rattle.soundness_unique.specs.Naming.{nameKeySize, nameKeyBegin, orderKeySize, orderKeyBegin, groupOf, isInside, nameWordsAt, nameHash, nameKey, KeysPut, liveTogether, keysApart, namesApartAt, ordersApartAt, Living, keyedAt, LivesKeyed, NamesLiving}
 use Rattle.soundness_unique.specs.Comparable.{Named}
 
--- a key more, from the first place on
-pub put-on : (f : ℕ → ℕ) (at i : ℕ) (old keys : List ℕ) {v : ℕ} → at < nameKeySize → nameKeySize * i + nameKeySize ≤ length keys → v ≡ f i
-    → Put f nameKeySize at 0 i old keys → Put f nameKeySize at 0 (i + 1) old (set keys (nameKeySize * i + at) v)
-put-on f at i old keys h l e p = rw zero-add at (put-next f nameKeySize at 0 i old keys h (rw zero-add l) e p)
-
+-- a word of a key, from the first place on
 pub put-at : {f : ℕ → ℕ} {size at n : ℕ} {old new : List ℕ} → Put f size at 0 n old new → (i : ℕ) → i < n → field size at new i ≡ f i
 put-at {size = size} {at = at} {new = new} p i h = ap (field size at new) (sym (zero-add i)) ∙ p .put i h
 
--- the group's number in keys
-pub group-all : (size : ℕ) (run : List ℕ) (n : ℕ) (keys : List ℕ) {g : Group} → g ≡ All → ((i : ℕ) → field nameKeySize 0 keys i ≡ 0) → GroupPut size g run n keys keys
-group-all size run n keys e z = record { long = refl; put = λ i h. z i ∙ rw e refl }
-
-pub group-with : (size : ℕ) (run : List ℕ) (n : ℕ) (old new : List ℕ) {g : Group} {word : ℕ} → g ≡ With word → Put (field size word run) nameKeySize 0 0 n old new
-    → GroupPut size g run n old new
-group-with size run n old new e p = record { long = p .long; put = λ i h. put-at p i h ∙ rw e refl }
-
+-- the word of a group
 pub group-inside : {g : Group} {word size : ℕ} → g ≡ With word → isInside g size ≡ true → word < size
 group-inside {word = word} {size = size} e h = ltb-true word size (rw e at h)
-
--- the words of a name, one after another
-module _ (names : List ℕ) (n : ℕ) {k₀ k₁ k₂ k₃ k₄ : List ℕ}
-    (a : Put (λ i. nameWord (nameAt names i) 0) nameKeySize 1 0 n k₀ k₁) (b : Put (λ i. nameWord (nameAt names i) 1) nameKeySize 2 0 n k₁ k₂)
-    (c : Put (λ i. nameWord (nameAt names i) 2) nameKeySize 3 0 n k₂ k₃) (d : Put (λ i. nameWord (nameAt names i) 3) nameKeySize 4 0 n k₃ k₄) where
-  kept : (k l i : ℕ) {f : ℕ → ℕ} {old new : List ℕ} → Put f nameKeySize l 0 n old new → k < l → l < nameKeySize → field nameKeySize k new i ≡ field nameKeySize k old i
-  kept k l i p h m = p .others i k (omega arith) (λ (e : k ≡ l). omega arith)
-
-  pub names-put : NamesPut names n k₀ k₄
-  names-put = record {
-    long = d .long ∙ (c .long ∙ (b .long ∙ a .long));
-    words = words;
-    group = λ i. kept 0 4 i d (omega arith) (omega arith) ∙ (kept 0 3 i c (omega arith) (omega arith) ∙ (kept 0 2 i b (omega arith) (omega arith) ∙ kept 0 1 i a (omega arith) (omega arith)));
-  }
-    where
-      words : (i k : ℕ) → i < n → k < nameWordCount → field nameKeySize (k + 1) k₄ i ≡ nameWord (nameAt names i) k
-      words i zero h l = kept 1 4 i d (omega arith) (omega arith) ∙ (kept 1 3 i c (omega arith) (omega arith) ∙ (kept 1 2 i b (omega arith) (omega arith) ∙ put-at a i h))
-      words i (suc zero) h l = kept 2 4 i d (omega arith) (omega arith) ∙ (kept 2 3 i c (omega arith) (omega arith) ∙ put-at b i h)
-      words i (suc (suc zero)) h l = kept 3 4 i d (omega arith) (omega arith) ∙ put-at c i h
-      words i (suc (suc (suc zero))) h l = put-at d i h
-      words i (suc (suc (suc (suc k)))) h l = absurd (omega arith)
-
--- keys that are zero
-pub zero-word : (m i : ℕ) → field nameKeySize 0 (replicate m 0) i ≡ 0
-unfolding field
-zero-word m i = zeros m (nameKeySize * i + 0)
-  where
-    zeros : (m k : ℕ) → getD {A = ℕ} (replicate m 0) k 0 ≡ 0
-    zeros zero k = refl
-    zeros (suc m) zero = refl
-    zeros (suc m) (suc k) = zeros m k
 
 pub pairwise-both : {A : Type 0} (r s : A → A → Bool) (xs : List A) → pairwise (λ a b. r a b && s a b) xs ≡ (pairwise r xs && pairwise s xs)
 unfolding pairwise
@@ -89,8 +50,8 @@ pairwise-both r s (x ∷ xs) = rw (← all-both (r x) (s x) xs, pairwise-both r 
     swap true false false d = refl
     swap false b c d = refl
 
-below : (n : ℕ) {i : ℕ} → In i (range 0 n) → i < n
-below n m = omega (arith, in-range 0 n m .1)
+in-first : (n : ℕ) {i : ℕ} → In i (range 0 n) → i < n
+in-first n m = omega (arith, in-range 0 n m .1)
 
 -- the same but for the begin, or live apart
 apart-of : (a b c : Bool) → (not (a && c) || not b) ≡ (not a || not b || not c)
@@ -100,36 +61,84 @@ apart-of true false true = refl
 apart-of true false false = refl
 apart-of false b c = refl
 
-module _ (size : ℕ) (group : Group) (begin : ℕ) (run names : List ℕ) (n : ℕ) (h : NamesLiving size group begin run names n) {k₀ k₁ k₂ k₃ : List ℕ}
-    (g : GroupPut size group run n k₀ k₁) (m : NamesPut names n k₁ k₂) (p : Put (field size begin run) nameKeySize nameKeyBegin 0 n k₂ k₃) where
-  pub names-keyed : {l : ℕ} → l ≡ n → nameKeySize * n ≤ length k₀ → LivesKeyed nameKeyBegin k₃ size begin run l
-  names-keyed e l = rw e (record { short = omega arith; living = h .living; room = omega (arith, p .long, m .long, g .long); begins = put-at p })
+-- the digest of a group and the words of a name
+pub name-digest : (size : ℕ) (group : Group) (run names : List ℕ) (i : ℕ) {g x₀ x₁ x₂ x₃ a b c d e : ℕ} → g ≡ groupOf group size run i
+    → x₀ ≡ nameWord (nameAt names i) 0 → x₁ ≡ nameWord (nameAt names i) 1 → x₂ ≡ nameWord (nameAt names i) 2 → x₃ ≡ nameWord (nameAt names i) 3
+    → a ≡ (mixed false 0 + g) % 2 ^ 64 → b ≡ (mixed false a + x₀) % 2 ^ 64 → c ≡ (mixed false b + x₁) % 2 ^ 64 → d ≡ (mixed false c + x₂) % 2 ^ 64
+    → e ≡ (mixed false d + x₃) % 2 ^ 64 → e ≡ digest false 0 (nameWordsAt size group run names i)
+unfolding digest range
+name-digest size group run names i u o p q r j k l m n = rw (n, m, l, k, j, u, o, p, q, r) refl
 
-  kept-word : (i k : ℕ) → k < nameKeyBegin → field nameKeySize k k₃ i ≡ field nameKeySize k k₂ i
-  kept-word i k l = p .others i k (omega arith) (λ (e : k ≡ nameKeyBegin). omega arith)
+-- the words of a key
+pub name-key : (size : ℕ) (group : Group) (begin : ℕ) (run names : List ℕ) (i : ℕ) {g x₀ x₁ x₂ x₃ b : ℕ} → g ≡ groupOf group size run i
+    → x₀ ≡ nameWord (nameAt names i) 0 → x₁ ≡ nameWord (nameAt names i) 1 → x₂ ≡ nameWord (nameAt names i) 2 → x₃ ≡ nameWord (nameAt names i) 3 → b ≡ field size begin run i
+    → (g ∷ (x₀ ∷ (x₁ ∷ (x₂ ∷ (x₃ ∷ (b ∷ [])))))) ≡ nameKey size group begin run names i
+unfolding range
+name-key size group begin run names i o p q r s t = rw (o, p, q, r, s, t) refl
 
-  first-words : (i : ℕ) → i < n → prefixAt nameKeyBegin nameKeySize k₃ i ≡ groupOf group size run i ∷ nameWords (nameAt names i)
-  unfolding range
-  first-words i l =
-      rw (
-        kept-word i 0 (omega arith) ∙ (m .group i ∙ g .put i l),
-        kept-word i 1 (omega arith) ∙ m .words i 0 l (omega arith),
-        kept-word i 2 (omega arith) ∙ m .words i 1 l (omega arith),
-        kept-word i 3 (omega arith) ∙ m .words i 2 l (omega arith),
-        kept-word i 4 (omega arith) ∙ m .words i 3 l (omega arith),
-      ) refl
+-- a key has so many words
+pub name-key-length : (size : ℕ) (group : Group) (begin : ℕ) (run names : List ℕ) (i : ℕ) → length (nameKey size group begin run names i) ≡ nameKeySize
+unfolding range
+name-key-length size group begin run names i = refl
 
-  same-name : (i j : ℕ) → i < n → j < n
-      → samePrefix nameKeyBegin nameKeySize k₃ i j ≡ (eqb (groupOf group size run i) (groupOf group size run j) && sameName (nameAt names i) (nameAt names j))
-  unfolding agree
-  same-name i j k l = rw (first-words i k, first-words j l, words-agree (nameAt names i) (nameAt names j) (h .named i k) (h .named j l)) refl
+-- of as many records as there are places
+pub names-as-long : {size : ℕ} {group : Group} {begin : ℕ} {run names : List ℕ} {l n : ℕ} → l ≡ n → NamesLiving size group begin run names n → NamesLiving size group begin run names l
+names-as-long e h = rw e h
 
-  pub names-are : {l : ℕ} {r : Bool} → l ≡ n → r ≡ pairwise (keysApart nameKeyBegin k₃ size begin run) (range 0 l) → r ≡ pairwise (namesApartAt size group begin run names) (range 0 n)
-  names-are e f =
-      f ∙ (ap (λ l. pairwise (keysApart nameKeyBegin k₃ size begin run) (range 0 l)) e
-      ∙ pairwise-ext (keysApart nameKeyBegin k₃ size begin run) (namesApartAt size group begin run names) (range 0 n)
-      (λ i j a b. rw (same-name i j (below n a) (below n b))
-      (apart-of (eqb (groupOf group size run i) (groupOf group size run j)) (liveTogether size begin run i j) (sameName (nameAt names i) (nameAt names j)))))
+pub pairs-as-long : (s : ℕ → ℕ → Bool) {l n : ℕ} {r : Bool} → l ≡ n → r ≡ pairwise s (range 0 l) → r ≡ pairwise s (range 0 n)
+pairs-as-long s e f = f ∙ ap (λ (l : ℕ). pairwise s (range 0 l)) e
+
+-- two records of one group and one name have one hash
+hash-tells : (size : ℕ) (group : Group) (begin : ℕ) (run names : List ℕ) (i j : ℕ) → (nameHash size group run names i ≡ nameHash size group run names j → ⊥)
+    → namesApartAt size group begin run names i j ≡ true
+unfolding sameName
+hash-tells size group begin run names i j d =
+    let g = eqb (groupOf group size run i) (groupOf group size run j) in
+    let s = sameName (nameAt names i) (nameAt names j) in
+    sym (apart-of g (liveTogether size begin run i j) s)
+    ∙ if (g && s)
+    (λ t. let b = both g s t in
+    absurd (d (ap₂ (λ (k : ℕ) (xs : List ℕ). hashed false (digest false 0 (k ∷ nameWords xs))) (eqb-true _ _ (b .0)) (same-words (nameAt names i) (nameAt names j) (b .1)))))
+    (λ t. rw t refl)
+
+module _ {size : ℕ} {group : Group} {begin : ℕ} {run names : List ℕ} {n : ℕ} (h : NamesLiving size group begin run names n) where
+  -- the hashes of all are below their limit, and places left by them decide as much as all
+  module _ {w hashes : List ℕ} {m : ℕ} (e : w ≡ range 0 n) (l : m ≡ n) (g : hashes ≡ map (nameHash size group run names) (range 0 m)) where
+    pub names-hashed : (length hashes ≡ length w) × (all (λ h. ltb h hashLimit) hashes ≡ true)
+    names-hashed = (rw (e, g, l, length-map) refl, all-below (nameHash size group run names) hashLimit (λ i. omega arith) (range 0 m) g)
+
+    pub names-kept : {left : List ℕ} → ((hash : ℕ → ℕ) → hashes ≡ map hash w → Kept hash w left) → Kept (nameHash size group run names) (range 0 n) left
+    names-kept f = rw e at (f (nameHash size group run names) (rw (e, g, l) refl))
+
+  -- keys put for places left by hashes
+  module _ {left keys : List ℕ} (k : Kept (nameHash size group run names) (range 0 n) left) (p : KeysPut (nameKey size group begin run names) nameKeySize left keys) where
+    first-words : (i : ℕ) → In i left → prefixAt nameKeyBegin nameKeySize keys i ≡ nameWordsAt size group run names i
+    unfolding range
+    first-words i m = ap (take nameKeyBegin) (p .put i m)
+
+    last-word : (i : ℕ) → In i left → field nameKeySize nameKeyBegin keys i ≡ field size begin run i
+    unfolding range
+    last-word i m = ap (λ (ws : List ℕ). getD ws nameKeyBegin 0) (p .put i m)
+
+    below : (i : ℕ) → In i left → i < n
+    below i m = ltb-true i n (all-in (λ q. ltb q n) left (k .within (λ q. ltb q n) (within-range n)) m)
+
+    same-name : (i j : ℕ) → In i left → In j left
+        → samePrefix nameKeyBegin nameKeySize keys i j ≡ (eqb (groupOf group size run i) (groupOf group size run j) && sameName (nameAt names i) (nameAt names j))
+    unfolding agree
+    same-name i j a b =
+        rw (first-words i a, first-words j b, words-agree (nameAt names i) (nameAt names j) (h .named i (below i a)) (h .named j (below j b))) refl
+
+    -- keys that are compared decide names
+    pub names-are : {r : Bool}
+        → ((m : ℕ) → Living size begin run m → all (keyedAt nameKeyBegin keys size begin run m) left ≡ true → r ≡ pairwise (keysApart nameKeyBegin keys size begin run) left)
+        → r ≡ pairwise (namesApartAt size group begin run names) (range 0 n)
+    names-are f =
+        f n (h .living) (in-all (keyedAt nameKeyBegin keys size begin run n) left (λ i m. and (lt-ltb i n (below i m)) (eq-eqb _ _ (last-word i m))))
+        ∙ (pairwise-ext (keysApart nameKeyBegin keys size begin run) (namesApartAt size group begin run names) left
+        (λ i j a b. rw (same-name i j a b)
+        (apart-of (eqb (groupOf group size run i) (groupOf group size run j)) (liveTogether size begin run i j) (sameName (nameAt names i) (nameAt names j))))
+        ∙ k .decided (namesApartAt size group begin run names) (hash-tells size group begin run names))
 
 module _ (run : List ℕ) (n : ℕ) (h : Living columnSize columnBeginWord run n) {k₀ k₁ k₂ k₃ : List ℕ} (p : Put (field columnSize columnTableWord run) orderKeySize 0 0 n k₀ k₁)
     (q : Put (field columnSize columnOrderWord run) orderKeySize 1 0 n k₁ k₂) (r : Put (field columnSize columnBeginWord run) orderKeySize orderKeyBegin 0 n k₂ k₃) where
@@ -152,11 +161,11 @@ module _ (run : List ℕ) (n : ℕ) (h : Living columnSize columnBeginWord run n
 
   pub orders-are : {l : ℕ} {t : Bool} → l ≡ n → t ≡ pairwise (keysApart orderKeyBegin k₃ columnSize columnBeginWord run) (range 0 l) → t ≡ pairwise (ordersApartAt run) (range 0 n)
   orders-are e f =
-      f ∙ (ap (λ l. pairwise (keysApart orderKeyBegin k₃ columnSize columnBeginWord run) (range 0 l)) e
+      pairs-as-long (keysApart orderKeyBegin k₃ columnSize columnBeginWord run) e f
       ∙ pairwise-ext (keysApart orderKeyBegin k₃ columnSize columnBeginWord run) (ordersApartAt run) (range 0 n)
-      (λ i j a b. rw (same-order i j (below n a) (below n b))
+      (λ i j a b. rw (same-order i j (in-first n a) (in-first n b))
       (apart-of (eqb (field columnSize columnTableWord run i) (field columnSize columnTableWord run j)) (liveTogether columnSize columnBeginWord run i j)
-      (eqb (field columnSize columnOrderWord run i) (field columnSize columnOrderWord run j)))))
+      (eqb (field columnSize columnOrderWord run i) (field columnSize columnOrderWord run j))))
 
 -- what the tables with names come to
 

@@ -13,7 +13,7 @@ use Rattle.layout.specs.Catalog.{absent, Versioned, Snapshot, Schema, Table, Co
 use Rattle.layout.specs.Fields.{schemaSize, tableSize, columnSize}
 use Rattle.layout.specs.Names.{nameSize, isName}
 use Rattle.layout.specs.Types.{isType}
-use Rattle.layout.specs.Words.{Words, load, tableLimit}
+use Rattle.layout.specs.Words.{Words, load}
 use Rattle.ducklake.specs.Liveness.{latestOf, liveAtSome}
 use Rattle.ducklake.specs.Soundness.{inLimit, isFlag, snapshotInRange, schemaInRange, tableInRange, columnInRange, dataFileInRange, deleteFileInRange, statisticsInRange, scheduledInRange, fieldsInRange, lifeSound, livesSound}
 use Rattle.soundness_unique.specs.Comparable.{Named}
@@ -66,28 +66,25 @@ module _ (w : Words) (c : Counts) (f : fieldsInRange (load w c) ≡ true) (l : l
       let ns = C .snapshots in
       of-five (all (lifeSound ns) (C .schemas)) (all (lifeSound ns) (C .tables)) (all (lifeSound ns) (C .columns)) (all (lifeSound ns) (C .dataFiles)) (all (lifeSound ns) (C .deleteFiles)) l
 
-  -- of tables that are lent as far as they are used, each within the limit
-  pub names-given : schemaSize * c .schemas ≤ length (w .schemas) → nameSize * c .schemas ≤ length (w .schemaNames) → c .schemas ≤ tableLimit
-      → tableSize * c .tables ≤ length (w .tables) → nameSize * c .tables ≤ length (w .tableNames) → c .tables ≤ tableLimit
-      → columnSize * c .columns ≤ length (w .columns) → nameSize * c .columns ≤ length (w .columnNames) → c .columns ≤ tableLimit
+  -- of tables that are lent as far as they are used
+  pub names-given : schemaSize * c .schemas ≤ length (w .schemas) → nameSize * c .schemas ≤ length (w .schemaNames)
+      → tableSize * c .tables ≤ length (w .tables) → nameSize * c .tables ≤ length (w .tableNames)
+      → columnSize * c .columns ≤ length (w .columns) → nameSize * c .columns ≤ length (w .columnNames)
       → Named (w .schemas) (w .schemaNames) (w .tables) (w .tableNames) (w .columns) (w .columnNames) c
   unfolding load
-  names-given a b d e g h i j k =
+  names-given a b d e g h =
       let ns = load w c .snapshots in
       record {
         schemasLent = a;
         schemaNamesLent = b;
-        fewSchemas = d;
         schemasNamed = all-weaken schemaInRange (λ v. isName (v .body .name)) _ schema-named (in-range .0);
         schemasLive = all-weaken (lifeSound ns) (λ v. ltb (v .begin) (v .end)) _ (lives ns) (living .0);
-        tablesLent = e;
-        tableNamesLent = g;
-        fewTables = h;
+        tablesLent = d;
+        tableNamesLent = e;
         tablesNamed = all-weaken tableInRange (λ v. isName (v .body .name)) _ table-named (in-range .1);
         tablesLive = all-weaken (lifeSound ns) (λ v. ltb (v .begin) (v .end)) _ (lives ns) (living .1);
-        columnsLent = i;
-        columnNamesLent = j;
-        fewColumns = k;
+        columnsLent = g;
+        columnNamesLent = h;
         columnsNamed = all-weaken columnInRange (λ v. isName (v .body .name)) _ column-named (in-range .2);
         columnsLive = all-weaken (lifeSound ns) (λ v. ltb (v .begin) (v .end)) _ (lives ns) (living .2);
       }

@@ -10,22 +10,16 @@ use Rattle.lists.specs.Runs.{field}
 use Rattle.layout.specs.declared.outcome.Counts.{Counts}
 use Rattle.layout.specs.Fields.{snapshotSize, schemaSize, tableSize, columnSize, dataFileSize, deleteFileSize, scheduledSize}
 use Rattle.layout.specs.Names.{nameSize, isName}
-use Rattle.layout.specs.Words.{tableLimit, schemasIn, tablesIn, columnsIn}
+use Rattle.layout.specs.Words.{schemasIn, tablesIn, columnsIn}
 use Rattle.soundness_unique.specs.declared.distinct.FileWords.{FileWords}
 use Rattle.soundness_unique.specs.Files.{fileCount}
+use Rattle.soundness_unique.specs.Naming.{nameKeySize}
 
 -- the tables of files are lent as far as they are used
 pub record FilesLent (dataFiles deleteFiles scheduled : List ℕ) (counts : Counts) : Type 0 where
   pub dataFilesLent : dataFileSize * counts .«data_files» ≤ length dataFiles
   pub deleteFilesLent : deleteFileSize * counts .«delete_files» ≤ length deleteFiles
   pub scheduledLent : scheduledSize * counts .scheduled ≤ length scheduled
-
--- and each is within the limit
-pub record FilesHeld (dataFiles deleteFiles scheduled : List ℕ) (counts : Counts) : Type 0 where
-  pub filesLent : FilesLent dataFiles deleteFiles scheduled counts
-  pub fewDataFiles : counts .«data_files» ≤ tableLimit
-  pub fewDeleteFiles : counts .«delete_files» ≤ tableLimit
-  pub fewScheduled : counts .scheduled ≤ tableLimit
 
 -- the tables whose records have ids from a counter are lent as far as they are used, and there is a latest snapshot
 pub record Numbered (snapshots schemas tables dataFiles deleteFiles scheduled : List ℕ) (counts : Counts) : Type 0 where
@@ -35,21 +29,18 @@ pub record Numbered (snapshots schemas tables dataFiles deleteFiles scheduled : 
   pub tablesLent : tableSize * counts .tables ≤ length tables
   pub filesLent : FilesLent dataFiles deleteFiles scheduled counts
 
--- the tables with names are lent as far as they are used, each within the limit; their names are names, and their records' lives not empty
+-- the tables with names are lent as far as they are used; their names are names, and their records' lives not empty
 pub record Named (schemas schemaNames tables tableNames columns columnNames : List ℕ) (counts : Counts) : Type 0 where
   pub schemasLent : schemaSize * counts .schemas ≤ length schemas
   pub schemaNamesLent : nameSize * counts .schemas ≤ length schemaNames
-  pub fewSchemas : counts .schemas ≤ tableLimit
   pub schemasNamed : all (λ v. isName (v .body .name)) (schemasIn schemas schemaNames (counts .schemas)) ≡ true
   pub schemasLive : all (λ v. ltb (v .begin) (v .end)) (schemasIn schemas schemaNames (counts .schemas)) ≡ true
   pub tablesLent : tableSize * counts .tables ≤ length tables
   pub tableNamesLent : nameSize * counts .tables ≤ length tableNames
-  pub fewTables : counts .tables ≤ tableLimit
   pub tablesNamed : all (λ v. isName (v .body .name)) (tablesIn tables tableNames (counts .tables)) ≡ true
   pub tablesLive : all (λ v. ltb (v .begin) (v .end)) (tablesIn tables tableNames (counts .tables)) ≡ true
   pub columnsLent : columnSize * counts .columns ≤ length columns
   pub columnNamesLent : nameSize * counts .columns ≤ length columnNames
-  pub fewColumns : counts .columns ≤ tableLimit
   pub columnsNamed : all (λ v. isName (v .body .name)) (columnsIn columns columnNames (counts .columns)) ≡ true
   pub columnsLive : all (λ v. ltb (v .begin) (v .end)) (columnsIn columns columnNames (counts .columns)) ≡ true
 
@@ -75,3 +66,19 @@ pub record FilesSortable (counts : Counts) (keys w v : List ℕ) : Type 0 where
   pub room : 2 * fileCount counts ≤ length keys
   pub places : length w ≡ fileCount counts
   pub scratch : length v ≡ fileCount counts
+
+-- scratch that may be longer: for files,
+pub record FilesScratch (counts : Counts) (keys w v : List ℕ) : Type 0 where
+  pub room : 2 * fileCount counts ≤ length keys
+  pub places : fileCount counts ≤ length w
+  pub spare : fileCount counts ≤ length v
+
+-- and for the tables with names, none of which has more than so many records
+pub record NamesScratch (counts : Counts) (keys w v : List ℕ) : Type 0 where
+  pub most : ℕ
+  pub schemas : counts .schemas ≤ most
+  pub tables : counts .tables ≤ most
+  pub columns : counts .columns ≤ most
+  pub room : nameKeySize * most ≤ length keys
+  pub places : most ≤ length w
+  pub spare : most ≤ length v

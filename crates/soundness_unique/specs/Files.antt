@@ -45,10 +45,6 @@ idsDistinct ids = pairwise (λ a b. not (eqb a b)) ids
 abbrev pub uuidsDistinct : List Uuid → Bool
 uuidsDistinct us = pairwise (λ u v. not (sameUuid u v)) us
 
--- so few files take little scratch
-abbrev pub fewFiles : ℕ
-fewFiles = 64
-
 abbrev pub fileCount : Counts → ℕ
 fileCount c = c .«data_files» + c .«delete_files» + c .scheduled
 

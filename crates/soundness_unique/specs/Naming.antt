@@ -1,8 +1,8 @@
 -- Names and orders of records that share a live number: how two are compared, and what the comparison relies on.
 use Prim.Native.Nat.{ℕ, _+_, _*_, _≤_, _<_}
 use mathlib.Core.Path.{_≡_}
-use mathlib.Core.Bool.{Bool, true, not, _||_}
-use mathlib.Core.List.{List}
+use mathlib.Core.Bool.{Bool, true, false, not, _&&_, _||_}
+use mathlib.Core.List.{List, [], _∷_, _++_, List·Memᴰ as In}
 use lib.Dec.{ltb, eqb}
 use lib.ListN.{length}
 use Rattle.lists.specs.Runs.{field}
@@ -10,14 +10,11 @@ use Rattle.layout.specs.Fields.{columnSize, columnTableWord, columnOrderWord, c
 use Rattle.layout.specs.Names.{nameSize, nameAt, isName, sameName}
 use Rattle.ducklake.specs.Soundness.{overlap}
 use Rattle.lookup.specs.Versions.{lifeAt, withLife}
-use Rattle.names.specs.NameWords.{nameWordCount, nameWord}
-use Rattle.sorting.specs.Colliding.{samePrefix}
+use Rattle.names.specs.NameWords.{nameWords}
+use Rattle.sorting.specs.Colliding.{samePrefix, digest, hashed}
+use Rattle.sorting.specs.Keys.{keyAt}
 use Rattle.soundness_unique.specs.declared.naming.Group.{Group}
 use Rattle.soundness_unique.specs.declared.naming.Group.the-variants.{All, With}
-
--- so few records take little scratch
-abbrev pub fewRecords : ℕ
-fewRecords = 64
 
 -- keys of names: the group, the words of the name, the begin
 abbrev pub nameKeySize : ℕ
@@ -41,6 +38,21 @@ groupOf (With word) size run i = field size word run i
 abbrev pub isInside : Group → ℕ → Bool
 isInside All size = true
 isInside (With word) size = ltb word size
+
+-- the words that two records may not share while both live: the group and the name. They are hashed where they stand; a key has the begin too
+
+abbrev pub nameWordsAt : ℕ → Group → List ℕ → List ℕ → ℕ → List ℕ
+nameWordsAt size group run names i = groupOf group size run i ∷ nameWords (nameAt names i)
+
+abbrev pub nameHash : ℕ → Group → List ℕ → List ℕ → ℕ → ℕ
+nameHash size group run names i = hashed false (digest false 0 (nameWordsAt size group run names i))
+
+abbrev pub nameKey : ℕ → Group → ℕ → List ℕ → List ℕ → ℕ → List ℕ
+nameKey size group begin run names i = nameWordsAt size group run names i ++ (field size begin run i ∷ [])
+
+-- each of the places has as its key what f says
+pub record KeysPut (f : ℕ → List ℕ) (size : ℕ) (places keys : List ℕ) : Type 0 where
+  pub put : (i : ℕ) → In i places → keyAt size keys i ≡ f i
 
 -- records of `size` words with begin and end in the word `begin` and the next: whether two share a live number
 abbrev pub liveTogether : ℕ → ℕ → List ℕ → ℕ → ℕ → Bool
@@ -66,33 +78,32 @@ pub record Living (size begin : ℕ) (run : List ℕ) (n : ℕ) : Type 0 where
   pub inside : begin + 1 < size
   pub lives : (i : ℕ) → i < n → field size begin run i < field size (begin + 1) run i
 
--- and keys of them, no longer than those of names, the begin in the last word
+-- a place of one of them, and of a key with its begin in the last word
+abbrev pub keyedAt : ℕ → List ℕ → ℕ → ℕ → List ℕ → ℕ → ℕ → Bool
+keyedAt used keys size begin run n i = ltb i n && eqb (field (used + 1) used keys i) (field size begin run i)
+
+-- keys of all of them, no longer than those of names
 pub record LivesKeyed (used : ℕ) (keys : List ℕ) (size begin : ℕ) (run : List ℕ) (n : ℕ) : Type 0 where
   pub short : used < nameKeySize
   pub living : Living size begin run n
   pub room : (used + 1) * n ≤ length keys
   pub begins : (i : ℕ) → i < n → field (used + 1) used keys i ≡ field size begin run i
 
--- and names
+-- n records of `size` words whose lives are not empty, with names
 pub record NamesLiving (size : ℕ) (group : Group) (begin : ℕ) (run names : List ℕ) (n : ℕ) : Type 0 where
   pub living : Living size begin run n
   pub grouped : isInside group size ≡ true
   pub namesLent : nameSize * n ≤ length names
   pub named : (i : ℕ) → i < n → isName (nameAt names i) ≡ true
 
--- scratch for n keys of `size` words and as many places
+-- scratch for n keys of `size` words and as many places, or more
 pub record Scratch (size n : ℕ) (keys w v : List ℕ) : Type 0 where
   pub room : size * n ≤ length keys
-  pub places : length w ≡ n
-  pub scratch : length v ≡ n
+  pub places : n ≤ length w
+  pub spare : n ≤ length v
 
--- keys of names, zero as yet, with the numbers of groups put in
-pub record GroupPut (size : ℕ) (group : Group) (run : List ℕ) (n : ℕ) (old new : List ℕ) : Type 0 where
-  pub long : length new ≡ length old
-  pub put : (i : ℕ) → i < n → field nameKeySize 0 new i ≡ groupOf group size run i
-
--- and with the words of names
-pub record NamesPut (names : List ℕ) (n : ℕ) (old new : List ℕ) : Type 0 where
-  pub long : length new ≡ length old
-  pub words : (i k : ℕ) → i < n → k < nameWordCount → field nameKeySize (k + 1) new i ≡ nameWord (nameAt names i) k
-  pub group : (i : ℕ) → field nameKeySize 0 new i ≡ field nameKeySize 0 old i
+-- a record with a group and a name
+pub record NameLent (size : ℕ) (group : Group) (run names : List ℕ) (i : ℕ) : Type 0 where
+  pub lent : size * i + size ≤ length run
+  pub grouped : isInside group size ≡ true
+  pub nameLent : nameSize * i + nameSize ≤ length names

@@ -1,11 +1,10 @@
 ghost use mathlib.Core.Path.{_≡_};
 ghost use mathlib.Core.List.{List};
-ghost use Prim.Native.Nat.{ℕ, _*_, _≤_};
-ghost use Rattle.layout.specs.Words.{tableLimit, dataFilesIn, deleteFilesIn, scheduledIn};
+ghost use Prim.Native.Nat.{ℕ};
+ghost use Rattle.layout.specs.Words.{dataFilesIn, deleteFilesIn, scheduledIn};
 ghost use Rattle.ducklake.specs.Soundness.{idsOfFiles, uuidsOfFiles};
-ghost use Rattle.soundness_unique.specs.Files.{fewFiles, fileCount, idsDistinct, uuidsDistinct, filesDiffer};
+ghost use Rattle.soundness_unique.specs.Files.{idsDistinct, uuidsDistinct, filesDiffer};
 ghost use Rattle.soundness_unique.specs.Comparable.{FilesLent, FilesPuttable, FilesPut, FilesSortable};
-use layout::number::TABLE_LIMIT;
 use layout::outcome::Counts;
 use layout::record::DataFileRecord;
 use layout::record::DeleteFileRecord;
@@ -14,12 +13,6 @@ use sorting::distinct::keys_differ;
 use sorting::keys::put_words;
 
 // Ids and UUIDs of files are in no order over the three tables: those of all are compared, and those that share a hash sorted.
-
-// So few files take little scratch.
-pub const FEW_FILES: usize = 64;
-
-// Files of all three tables.
-const ALL_FILES: usize = 3 * TABLE_LIMIT;
 
 // A word of a record of each table.
 pub struct FileWords {
@@ -143,7 +136,7 @@ fn file_uuids_differ(
     keys_differ(keys, 2, w, v)
 }
 
-fn files_differ(
+pub fn files_differ(
     data_files: &[u64],
     delete_files: &[u64],
     scheduled: &[u64],
@@ -159,54 +152,4 @@ fn files_differ(
     let a = file_ids_differ(data_files, delete_files, scheduled, counts, keys, w, v);
     let b = file_uuids_differ(data_files, delete_files, scheduled, counts, keys, w, v);
     a & b
-}
-
-pub fn few_files_differ(
-    data_files: &[u64],
-    delete_files: &[u64],
-    scheduled: &[u64],
-    counts: Counts,
-    n: usize,
-) -> bool
-    requires { ⌜ FilesLent (now «data_files») (now «delete_files») (now scheduled) counts × (n ≡ fileCount counts) × (n ≤ fewFiles) ⌝ }
-    ensures { λ r. ⌜ ((positions : List ℕ)
-        → r ≡ filesDiffer (now («data_files» .entry)) (now («delete_files» .entry)) (now (scheduled .entry)) positions counts) ⌝ }
-{
-    let mut keys = [0u64; 2 * FEW_FILES];
-    let mut w = [0usize; FEW_FILES];
-    let mut v = [0usize; FEW_FILES];
-    files_differ(
-        data_files,
-        delete_files,
-        scheduled,
-        counts,
-        &mut keys,
-        &mut w[0..n],
-        &mut v[0..n],
-    )
-}
-
-pub fn all_files_differ(
-    data_files: &[u64],
-    delete_files: &[u64],
-    scheduled: &[u64],
-    counts: Counts,
-    n: usize,
-) -> bool
-    requires { ⌜ FilesLent (now «data_files») (now «delete_files») (now scheduled) counts × (n ≡ fileCount counts) × (n ≤ 3 * tableLimit) ⌝ }
-    ensures { λ r. ⌜ ((positions : List ℕ)
-        → r ≡ filesDiffer (now («data_files» .entry)) (now («delete_files» .entry)) (now (scheduled .entry)) positions counts) ⌝ }
-{
-    let mut keys = [0u64; 2 * ALL_FILES];
-    let mut w = [0usize; ALL_FILES];
-    let mut v = [0usize; ALL_FILES];
-    files_differ(
-        data_files,
-        delete_files,
-        scheduled,
-        counts,
-        &mut keys,
-        &mut w[0..n],
-        &mut v[0..n],
-    )
 }

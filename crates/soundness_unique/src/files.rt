@@ -8,10 +8,8 @@ ghost use Rattle.lists.specs.Lists.{all};
 ghost use Rattle.layout.specs.Fields.{schemaSize, tableSize};
 ghost use Rattle.layout.specs.Words.{Words, load, schemasIn, tablesIn, dataFilesIn, deleteFilesIn, scheduledIn};
 ghost use Rattle.ducklake.specs.Soundness.{idsOfFiles, idsBelowNext, filesDistinct};
-ghost use Rattle.soundness_unique.specs.Comparable.{Numbered, FilesLent, FilesHeld};
-use crate::distinct::FEW_FILES;
-use crate::distinct::all_files_differ;
-use crate::distinct::few_files_differ;
+ghost use Rattle.soundness_unique.specs.Comparable.{Numbered, FilesLent, FilesScratch};
+use crate::distinct::files_differ;
 use layout::number::CatalogId;
 use layout::number::FileId;
 use layout::outcome::Counts;
@@ -106,14 +104,17 @@ pub fn ids_below_next(
     a & b
 }
 
-// "no file id or UUID occurs twice over data files, delete files and scheduled"
+// "no file id or UUID occurs twice over data files, delete files and scheduled"; keys, w and v are scratch.
 pub fn files_distinct(
     data_files: &[u64],
     delete_files: &[u64],
     scheduled: &[u64],
     counts: Counts,
+    keys: &mut [u64],
+    w: &mut [usize],
+    v: &mut [usize],
 ) -> bool
-    requires { ⌜ FilesHeld (now «data_files») (now «delete_files») (now scheduled) counts ⌝ }
+    requires { ⌜ FilesLent (now «data_files») (now «delete_files») (now scheduled) counts × FilesScratch counts (now keys) (now w) (now v) ⌝ }
     ensures { λ r. ⌜ ((w : Words)
         → w .dataFiles ≡ now («data_files» .entry)
         → w .deleteFiles ≡ now («delete_files» .entry)
@@ -121,8 +122,13 @@ pub fn files_distinct(
         → r ≡ filesDistinct (load w counts)) ⌝ }
 {
     let n = counts.data_files + counts.delete_files + counts.scheduled;
-    if n <= FEW_FILES {
-        return few_files_differ(data_files, delete_files, scheduled, counts, n);
-    }
-    all_files_differ(data_files, delete_files, scheduled, counts, n)
+    files_differ(
+        data_files,
+        delete_files,
+        scheduled,
+        counts,
+        keys,
+        &mut w[0..n],
+        &mut v[0..n],
+    )
 }

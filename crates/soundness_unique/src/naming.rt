@@ -1,20 +1,19 @@
 ghost use mathlib.Core.Path.{_≡_};
 ghost use mathlib.Core.Bool.{true};
+ghost use mathlib.Core.List.{map};
 ghost use Prim.Native.Nat.{ℕ, _+_, _*_, _≤_, _<_};
-ghost use lib.Dec.{ltb};
 ghost use lib.ListN.{length};
 ghost use Rattle.lists.specs.Lists.{range, all, pairwise, chained};
-ghost use Rattle.lists.specs.Runs.{field};
-ghost use Rattle.layout.specs.Fields.{columnSize, columnBeginWord};
-ghost use Rattle.layout.specs.Names.{nameSize, nameAt};
-ghost use Rattle.layout.specs.Words.{Words, load, tableLimit};
+ghost use Rattle.lists.specs.Runs.{overwrite};
+ghost use Rattle.layout.specs.Fields.{columnSize, columnTableWord, columnBeginWord};
+ghost use Rattle.layout.specs.Names.{nameSize};
+ghost use Rattle.layout.specs.Words.{Words, load};
 ghost use Rattle.ducklake.specs.Soundness.{namesApart};
-ghost use Rattle.names.specs.NameWords.{nameWordCount, nameWord};
 ghost use Rattle.sorting.specs.Colliding.{samePrefix};
-ghost use Rattle.sorting.specs.Keys.{Keyed, Put};
-ghost use Rattle.soundness_unique.specs.Naming.{fewRecords, nameKeySize, orderKeySize, isInside, keysApart, namesApartAt, ordersApartAt, Living, LivesKeyed, NamesLiving, Scratch, GroupPut, NamesPut};
-ghost use Rattle.soundness_unique.specs.Comparable.{Named};
-use layout::number::TABLE_LIMIT;
+ghost use Rattle.sorting.specs.Keys.{Keyed};
+ghost use Rattle.soundness_unique.specs.declared.naming.Group.the-variants.{With};
+ghost use Rattle.soundness_unique.specs.Naming.{nameKeySize, orderKeySize, groupOf, isInside, nameHash, nameKey, KeysPut, keysApart, namesApartAt, ordersApartAt, Living, keyedAt, LivesKeyed, NamesLiving, Scratch, NameLent};
+ghost use Rattle.soundness_unique.specs.Comparable.{Named, NamesScratch};
 use layout::outcome::Counts;
 use layout::record::ColumnRecord;
 use layout::record::SchemaRecord;
@@ -23,6 +22,11 @@ use lookup::life::life_at;
 use lookup::life::lives_overlap;
 use names::name_word;
 use runs::fields::field_at;
+use runs::fields::fields_ascend;
+use runs::pairs::pairs_ascend;
+use sorting::colliding::absorb;
+use sorting::colliding::hash;
+use sorting::colliding::keep_colliding;
 use sorting::colliding::thin;
 use sorting::keys::put_words;
 use sorting::sort::number;
@@ -30,9 +34,6 @@ use sorting::sort::sort;
 
 // Names and orders are in no order. Records are sorted by what no two may share while both live, then by begin: if each has ended when the next that
 // shares it begins, no two clash.
-
-// So few records take little scratch.
-const FEW_RECORDS: usize = 64;
 
 // Keys of names: the group, the words of the name, the begin.
 const NAME_KEY_SIZE: usize = 6;
@@ -115,6 +116,26 @@ fn neighbours_apart(
 }
 
 // Whether no two of the records at those places share both the first words of their keys and a live number; v is scratch.
+fn sorted_apart(
+    keys: &[u64],
+    used: usize,
+    table: &[u64],
+    size: usize,
+    begin: usize,
+    w: &mut [usize],
+    v: &mut [usize],
+) -> bool
+    requires { ⌜ Keyed (used + 1) (now keys) (now w) × Keyed size (now table) (now w) × (used < nameKeySize) × (begin + 1 < size)
+        × (length (now v) ≡ length (now w)) ⌝ }
+    ensures { λ r. ⌜ ((n : ℕ) → Living size begin (now (table .entry)) n
+        → all (keyedAt used (now (keys .entry)) size begin (now (table .entry)) n) (now (w .entry)) ≡ true
+        → r ≡ pairwise (keysApart used (now (keys .entry)) size begin (now (table .entry))) (now (w .entry))) ⌝ }
+{
+    sort(keys, used + 1, w, v);
+    neighbours_apart(keys, used, table, size, begin, w)
+}
+
+// The same: those whose first words no other has, by the second hash, need no sort.
 fn places_apart(
     keys: &[u64],
     used: usize,
@@ -126,14 +147,16 @@ fn places_apart(
 ) -> bool
     requires { ⌜ Keyed (used + 1) (now keys) (now w) × Keyed size (now table) (now w) × (used < nameKeySize) × (begin + 1 < size)
         × (length (now v) ≡ length (now w)) ⌝ }
-    ensures { λ r. ⌜ ((n : ℕ) → LivesKeyed used (now (keys .entry)) size begin (now (table .entry)) n → all (λ p. ltb p n) (now (w .entry)) ≡ true
+    ensures { λ r. ⌜ ((n : ℕ) → Living size begin (now (table .entry)) n
+        → all (keyedAt used (now (keys .entry)) size begin (now (table .entry)) n) (now (w .entry)) ≡ true
         → r ≡ pairwise (keysApart used (now (keys .entry)) size begin (now (table .entry))) (now (w .entry))) ⌝ }
 {
-    sort(keys, used + 1, w, v);
-    neighbours_apart(keys, used, table, size, begin, w)
+    let key_size = used + 1;
+    let r = thin(keys, key_size, used, true, w, v);
+    sorted_apart(keys, used, table, size, begin, &mut w[..r], &mut v[..r])
 }
 
-// The same of as many records as w is long: those whose first words no other has need no sort. w and v are scratch.
+// The same of as many records as w is long: those whose first words no other has, by the first hash, need no second. w and v are scratch.
 fn lives_apart(
     keys: &[u64],
     used: usize,
@@ -148,45 +171,125 @@ fn lives_apart(
 {
     number(w);
     let key_size = used + 1;
-    let r = thin(keys, key_size, used, w, v);
+    let r = thin(keys, key_size, used, false, w, v);
     places_apart(keys, used, table, size, begin, &mut w[..r], &mut v[..r])
 }
 
-// The number of each record's group: keys that are zero have it where there is one group.
-fn put_group(table: &[u64], size: usize, group: Group, n: usize, keys: &mut [u64])
-    requires { ⌜ (size * n ≤ length (now table)) × (isInside group size ≡ true) × (nameKeySize * n ≤ length (now keys))
-        × ((i : ℕ) → field nameKeySize 0 (now keys) i ≡ 0) ⌝ }
-    ensures { λ _. ⌜ GroupPut size group (now (table .entry)) n (now (keys .entry)) (now (keys .exit)) ⌝ }
+// The number of the group of the record at place i.
+fn group_at(table: &[u64], size: usize, group: Group, i: usize) -> u64
+    requires { ⌜ (size * i + size ≤ length (now table)) × (isInside group size ≡ true) ⌝ }
+    ensures { λ r. ⌜ r ≡ groupOf group size (now (table .entry)) i ⌝ }
 {
     match group {
-        Group::All => {}
-        Group::With(word) => put_words(table, size, word, n, keys, NAME_KEY_SIZE, 0, 0),
+        Group::All => 0,
+        Group::With(word) => field_at(table, size, word, i),
     }
 }
 
-// The word k of each name, as the word `at` of the keys.
-fn put_name_word(names: &[u8], k: usize, n: usize, keys: &mut [u64], at: usize)
-    requires { ⌜ (nameSize * n ≤ length (now names)) × (k < nameWordCount) × (nameKeySize * n ≤ length (now keys)) × (at < nameKeySize) ⌝ }
-    ensures { λ _. ⌜ Put (λ i. nameWord (nameAt (now (names .entry)) i) k) nameKeySize at 0 n (now (keys .entry)) (now (keys .exit)) ⌝ }
+// The hash of its group and its name.
+fn name_hash(table: &[u64], size: usize, group: Group, names: &[u8], i: usize) -> usize
+    requires { ⌜ NameLent size group (now table) (now names) i ⌝ }
+    ensures { λ r. ⌜ r ≡ nameHash size group (now (table .entry)) (now (names .entry)) i ⌝ }
 {
+    let a = absorb(0, group_at(table, size, group, i), false);
+    let b = absorb(a, name_word(names, i, 0), false);
+    let c = absorb(b, name_word(names, i, 1), false);
+    let d = absorb(c, name_word(names, i, 2), false);
+    let e = absorb(d, name_word(names, i, 3), false);
+    hash(e, false)
+}
+
+// The hashes of as many records as there are places for them.
+fn hash_names(table: &[u64], size: usize, group: Group, names: &[u8], hashes: &mut [usize])
+    requires { ⌜ (size * length (now hashes) ≤ length (now table)) × (isInside group size ≡ true) × (nameSize * length (now hashes) ≤ length (now names)) ⌝ }
+    ensures { λ _. ⌜ now (hashes .exit) ≡ map (nameHash size group (now (table .entry)) (now (names .entry))) (range 0 (length (now (hashes .entry)))) ⌝ }
+{
+    let n = hashes.len();
     let mut p: usize = 0;
     while p < n {
-        keys[NAME_KEY_SIZE * p + at] = name_word(names, p, k);
+        hashes[p] = name_hash(table, size, group, names, p);
         p += 1;
     }
 }
 
-fn put_names(names: &[u8], n: usize, keys: &mut [u64])
-    requires { ⌜ (nameSize * n ≤ length (now names)) × (nameKeySize * n ≤ length (now keys)) ⌝ }
-    ensures { λ _. ⌜ NamesPut (now (names .entry)) n (now (keys .entry)) (now (keys .exit)) ⌝ }
+// The key of the record at place i: the group, the words of the name, the begin.
+fn put_name_key(
+    table: &[u64],
+    size: usize,
+    group: Group,
+    begin: usize,
+    names: &[u8],
+    i: usize,
+    keys: &mut [u64],
+)
+    requires { ⌜ NameLent size group (now table) (now names) i × (begin < size) × (nameKeySize * i + nameKeySize ≤ length (now keys)) ⌝ }
+    ensures { λ _. ⌜ now (keys .exit) ≡ overwrite (now (keys .entry)) (nameKeySize * i)
+        (nameKey size group begin (now (table .entry)) (now (names .entry)) i) ⌝ }
 {
-    put_name_word(names, 0, n, keys, 1);
-    put_name_word(names, 1, n, keys, 2);
-    put_name_word(names, 2, n, keys, 3);
-    put_name_word(names, 3, n, keys, 4);
+    let k = NAME_KEY_SIZE * i;
+    keys[k] = group_at(table, size, group, i);
+    keys[k + 1] = name_word(names, i, 0);
+    keys[k + 2] = name_word(names, i, 1);
+    keys[k + 3] = name_word(names, i, 2);
+    keys[k + 4] = name_word(names, i, 3);
+    keys[k + NAME_KEY_BEGIN] = field_at(table, size, begin, i);
 }
 
-// Whether records of one group that share a live number have different names; keys, which are zero, w and v are scratch.
+// The keys of the records at those places.
+fn put_name_keys(
+    table: &[u64],
+    size: usize,
+    group: Group,
+    begin: usize,
+    names: &[u8],
+    w: &[usize],
+    keys: &mut [u64],
+)
+    requires { ⌜ Keyed size (now table) (now w) × (isInside group size ≡ true) × (begin < size)
+        × Keyed nameSize (now names) (now w) × Keyed nameKeySize (now keys) (now w) ⌝ }
+    ensures { λ _. ⌜ (length (now (keys .exit)) ≡ length (now (keys .entry)))
+        × KeysPut (nameKey size group begin (now (table .entry)) (now (names .entry))) nameKeySize (now (w .entry)) (now (keys .exit)) ⌝ }
+{
+    let n = w.len();
+    let mut j: usize = 0;
+    while j < n {
+        put_name_key(table, size, group, begin, names, w[j], keys);
+        j += 1;
+    }
+}
+
+// Whether records of one group that share a live number have different names, of as many records as w is long: those whose group and name no other
+// has, by the first hash, need no key. keys, w and v are scratch.
+fn all_names_apart(
+    table: &[u64],
+    size: usize,
+    group: Group,
+    begin: usize,
+    names: &[u8],
+    keys: &mut [u64],
+    w: &mut [usize],
+    v: &mut [usize],
+) -> bool
+    requires { ⌜ NamesLiving size group begin (now table) (now names) (length (now w))
+        × (nameKeySize * length (now w) ≤ length (now keys)) × (length (now v) ≡ length (now w)) ⌝ }
+    ensures { λ r. ⌜ r ≡ pairwise (namesApartAt size group begin (now (table .entry)) (now (names .entry))) (range 0 (length (now (w .entry)))) ⌝ }
+{
+    number(w);
+    hash_names(table, size, group, names, v);
+    let r = keep_colliding(v, w);
+    put_name_keys(table, size, group, begin, names, &w[..r], keys);
+    places_apart(
+        keys,
+        NAME_KEY_BEGIN,
+        table,
+        size,
+        begin,
+        &mut w[..r],
+        &mut v[..r],
+    )
+}
+
+// The same of n records, in scratch that may be longer.
 fn names_apart_by(
     table: &[u64],
     size: usize,
@@ -198,94 +301,19 @@ fn names_apart_by(
     w: &mut [usize],
     v: &mut [usize],
 ) -> bool
-    requires { ⌜ NamesLiving size group begin (now table) (now names) n × Scratch nameKeySize n (now keys) (now w) (now v)
-        × ((i : ℕ) → field nameKeySize 0 (now keys) i ≡ 0) ⌝ }
+    requires { ⌜ NamesLiving size group begin (now table) (now names) n × Scratch nameKeySize n (now keys) (now w) (now v) ⌝ }
     ensures { λ r. ⌜ r ≡ pairwise (namesApartAt size group begin (now (table .entry)) (now (names .entry))) (range 0 n) ⌝ }
 {
-    put_group(table, size, group, n, keys);
-    put_names(names, n, keys);
-    put_words(
+    all_names_apart(
         table,
         size,
+        group,
         begin,
-        n,
+        names,
         keys,
-        NAME_KEY_SIZE,
-        NAME_KEY_BEGIN,
-        0,
-    );
-    lives_apart(keys, NAME_KEY_BEGIN, table, size, begin, w, v)
-}
-
-fn few_names_apart(
-    table: &[u64],
-    size: usize,
-    group: Group,
-    begin: usize,
-    names: &[u8],
-    n: usize,
-) -> bool
-    requires { ⌜ NamesLiving size group begin (now table) (now names) n × (n ≤ fewRecords) ⌝ }
-    ensures { λ r. ⌜ r ≡ pairwise (namesApartAt size group begin (now (table .entry)) (now (names .entry))) (range 0 n) ⌝ }
-{
-    let mut keys = [0u64; NAME_KEY_SIZE * FEW_RECORDS];
-    let mut w = [0usize; FEW_RECORDS];
-    let mut v = [0usize; FEW_RECORDS];
-    names_apart_by(
-        table,
-        size,
-        group,
-        begin,
-        names,
-        n,
-        &mut keys,
         &mut w[0..n],
         &mut v[0..n],
     )
-}
-
-fn many_names_apart(
-    table: &[u64],
-    size: usize,
-    group: Group,
-    begin: usize,
-    names: &[u8],
-    n: usize,
-) -> bool
-    requires { ⌜ NamesLiving size group begin (now table) (now names) n × (n ≤ tableLimit) ⌝ }
-    ensures { λ r. ⌜ r ≡ pairwise (namesApartAt size group begin (now (table .entry)) (now (names .entry))) (range 0 n) ⌝ }
-{
-    let mut keys = [0u64; NAME_KEY_SIZE * TABLE_LIMIT];
-    let mut w = [0usize; TABLE_LIMIT];
-    let mut v = [0usize; TABLE_LIMIT];
-    names_apart_by(
-        table,
-        size,
-        group,
-        begin,
-        names,
-        n,
-        &mut keys,
-        &mut w[0..n],
-        &mut v[0..n],
-    )
-}
-
-fn all_names_apart(
-    table: &[u64],
-    size: usize,
-    group: Group,
-    begin: usize,
-    names: &[u8],
-    n: usize,
-) -> bool
-    requires { ⌜ NamesLiving size group begin (now table) (now names) n × (n ≤ tableLimit) ⌝ }
-    ensures { λ r. ⌜ r ≡ pairwise (namesApartAt size group begin (now (table .entry)) (now (names .entry))) (range 0 n) ⌝ }
-{
-    if n <= FEW_RECORDS {
-        return few_names_apart(table, size, group, begin, names, n);
-    }
-    many_names_apart(table, size, group, begin, names, n)
 }
 
 // Whether columns of one table that share a live number have different orders; keys, w and v are scratch.
@@ -300,27 +328,11 @@ fn orders_apart_by(
     ensures { λ r. ⌜ r ≡ pairwise (ordersApartAt (now (columns .entry))) (range 0 n) ⌝ }
 {
     let size = ColumnRecord::SIZE;
+    let table = ColumnRecord::TABLE;
+    let order = ColumnRecord::ORDER;
     let begin = ColumnRecord::BEGIN;
-    put_words(
-        columns,
-        size,
-        ColumnRecord::TABLE,
-        n,
-        keys,
-        ORDER_KEY_SIZE,
-        0,
-        0,
-    );
-    put_words(
-        columns,
-        size,
-        ColumnRecord::ORDER,
-        n,
-        keys,
-        ORDER_KEY_SIZE,
-        1,
-        0,
-    );
+    put_words(columns, size, table, n, keys, ORDER_KEY_SIZE, 0, 0);
+    put_words(columns, size, order, n, keys, ORDER_KEY_SIZE, 1, 0);
     put_words(
         columns,
         size,
@@ -331,41 +343,73 @@ fn orders_apart_by(
         ORDER_KEY_BEGIN,
         0,
     );
-    lives_apart(keys, ORDER_KEY_BEGIN, columns, size, begin, w, v)
+    lives_apart(
+        keys,
+        ORDER_KEY_BEGIN,
+        columns,
+        size,
+        begin,
+        &mut w[0..n],
+        &mut v[0..n],
+    )
 }
 
-fn few_orders_apart(columns: &[u64], n: usize) -> bool
-    requires { ⌜ Living columnSize columnBeginWord (now columns) n × (n ≤ fewRecords) ⌝ }
+// The same: at once where columns ascend by table and order, which is how calls write them.
+fn orders_apart(
+    columns: &[u64],
+    n: usize,
+    keys: &mut [u64],
+    w: &mut [usize],
+    v: &mut [usize],
+) -> bool
+    requires { ⌜ Living columnSize columnBeginWord (now columns) n × Scratch orderKeySize n (now keys) (now w) (now v) ⌝ }
     ensures { λ r. ⌜ r ≡ pairwise (ordersApartAt (now (columns .entry))) (range 0 n) ⌝ }
 {
-    let mut keys = [0u64; ORDER_KEY_SIZE * FEW_RECORDS];
-    let mut w = [0usize; FEW_RECORDS];
-    let mut v = [0usize; FEW_RECORDS];
-    orders_apart_by(columns, n, &mut keys, &mut w[0..n], &mut v[0..n])
-}
-
-fn many_orders_apart(columns: &[u64], n: usize) -> bool
-    requires { ⌜ Living columnSize columnBeginWord (now columns) n × (n ≤ tableLimit) ⌝ }
-    ensures { λ r. ⌜ r ≡ pairwise (ordersApartAt (now (columns .entry))) (range 0 n) ⌝ }
-{
-    let mut keys = [0u64; ORDER_KEY_SIZE * TABLE_LIMIT];
-    let mut w = [0usize; TABLE_LIMIT];
-    let mut v = [0usize; TABLE_LIMIT];
-    orders_apart_by(columns, n, &mut keys, &mut w[0..n], &mut v[0..n])
-}
-
-fn all_orders_apart(columns: &[u64], n: usize) -> bool
-    requires { ⌜ Living columnSize columnBeginWord (now columns) n × (n ≤ tableLimit) ⌝ }
-    ensures { λ r. ⌜ r ≡ pairwise (ordersApartAt (now (columns .entry))) (range 0 n) ⌝ }
-{
-    if n <= FEW_RECORDS {
-        return few_orders_apart(columns, n);
+    let ascend = pairs_ascend(
+        columns,
+        ColumnRecord::SIZE,
+        ColumnRecord::TABLE,
+        ColumnRecord::ORDER,
+        n,
+    );
+    if ascend {
+        return true;
     }
-    many_orders_apart(columns, n)
+    orders_apart_by(columns, n, keys, w, v)
+}
+
+// Whether columns of one table that share a live number have different names: at once where each is the only one of its table. keys, w and v are scratch.
+fn column_names_apart(
+    columns: &[u64],
+    names: &[u8],
+    n: usize,
+    keys: &mut [u64],
+    w: &mut [usize],
+    v: &mut [usize],
+) -> bool
+    requires { ⌜ NamesLiving columnSize (With columnTableWord) columnBeginWord (now columns) (now names) n
+        × Scratch nameKeySize n (now keys) (now w) (now v) ⌝ }
+    ensures { λ r. ⌜ r ≡ pairwise (namesApartAt columnSize (With columnTableWord) columnBeginWord (now (columns .entry)) (now (names .entry))) (range 0 n) ⌝ }
+{
+    let alone = fields_ascend(columns, ColumnRecord::SIZE, ColumnRecord::TABLE, n);
+    if alone {
+        return true;
+    }
+    names_apart_by(
+        columns,
+        ColumnRecord::SIZE,
+        Group::With(ColumnRecord::TABLE),
+        ColumnRecord::BEGIN,
+        names,
+        n,
+        keys,
+        w,
+        v,
+    )
 }
 
 // "schemas, tables of one schema and columns of one table with a common live snapshot number have different names, such columns also different
-// orders"
+// orders"; keys, w and v are scratch.
 pub fn names_apart(
     schemas: &[u64],
     schema_names: &[u8],
@@ -374,8 +418,12 @@ pub fn names_apart(
     columns: &[u64],
     column_names: &[u8],
     counts: Counts,
+    keys: &mut [u64],
+    w: &mut [usize],
+    v: &mut [usize],
 ) -> bool
-    requires { ⌜ Named (now schemas) (now «schema_names») (now tables) (now «table_names») (now columns) (now «column_names») counts ⌝ }
+    requires { ⌜ Named (now schemas) (now «schema_names») (now tables) (now «table_names») (now columns) (now «column_names») counts
+        × NamesScratch counts (now keys) (now w) (now v) ⌝ }
     ensures { λ r. ⌜ ((w : Words)
         → w .schemas ≡ now (schemas .entry)
         → w .schemaNames ≡ now («schema_names» .entry)
@@ -385,30 +433,29 @@ pub fn names_apart(
         → w .columnNames ≡ now («column_names» .entry)
         → r ≡ namesApart (load w counts)) ⌝ }
 {
-    let a = all_names_apart(
+    let a = names_apart_by(
         schemas,
         SchemaRecord::SIZE,
         Group::All,
         SchemaRecord::BEGIN,
         schema_names,
         counts.schemas,
+        keys,
+        w,
+        v,
     );
-    let b = all_names_apart(
+    let b = names_apart_by(
         tables,
         TableRecord::SIZE,
         Group::With(TableRecord::SCHEMA),
         TableRecord::BEGIN,
         table_names,
         counts.tables,
+        keys,
+        w,
+        v,
     );
-    let c = all_names_apart(
-        columns,
-        ColumnRecord::SIZE,
-        Group::With(ColumnRecord::TABLE),
-        ColumnRecord::BEGIN,
-        column_names,
-        counts.columns,
-    );
-    let d = all_orders_apart(columns, counts.columns);
+    let c = column_names_apart(columns, column_names, counts.columns, keys, w, v);
+    let d = orders_apart(columns, counts.columns, keys, w, v);
     a & b & (c & d)
 }

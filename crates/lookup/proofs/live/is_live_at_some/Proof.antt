@@ -7,7 +7,7 @@ use Rattle.lookup.proofs.live.is_live_at_some.Statement.{statement}
 use Rattle.lookup.proofs.live.is_live_at_some.Tie as tie
 
 returns : tie.Need-returns
-returns c = let a = c .before .before .args in c .is-live-among .ensures ∙ sym (live-ids (withLife (a .l)) (a .snapshots .now) _)
+returns c = let a = c .before .before .args in c .is-live-among-near .ensures ∙ sym (live-ids (withLife (a .l)) (a .snapshots .now) _)
 
 pub is-live-at-some-spec : {M : Type 1} → statement M
 is-live-at-some-spec = tie.close (tie.spec (λ c κs. search needs) returns)

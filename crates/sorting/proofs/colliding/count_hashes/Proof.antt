@@ -1,12 +1,12 @@
 -- `count_hashes` meets its contract: at every turn the hashes so far are counted.
 use borrow.Author.Needs.{needs}
 use Prim.Native.Nat.{_-_, _≤_, _<_}
-use mathlib.Core.Path.{_≡_, refl, _∙_}
+use mathlib.Core.Path.{_≡_, refl}
 use native.Mathlib.Omega.{arith}
 use lib.ListN.{length, take, getD, length-set}
 use lib.Seq.{take-all}
 use Rattle.sorting.specs.Colliding.{Counted}
-use Rattle.sorting.proofs.Collisions.{counted-next, hash-in}
+use Rattle.sorting.proofs.Collisions.{counted-most, counted-next, hash-in}
 use Rattle.sorting.proofs.colliding.count_hashes.Statement.{statement}
 use Rattle.sorting.proofs.colliding.count_hashes.Tie as tie
 
@@ -29,6 +29,9 @@ counted c = omega (arith, c .before .loop .inv .1, hash-in _ _ _ (begun c .pre .
 slice-read-one-more : tie.Need-slice-read-one-more Inv-loop μ-loop
 slice-read-one-more c = counted (c .before .before)
 
+one-more-requires : tie.Need-one-more-requires Inv-loop μ-loop
+one-more-requires c κs = counted-most (c .before .before .before .loop .inv .2) _
+
 slice-write-counts : tie.Need-slice-write-counts Inv-loop μ-loop
 slice-write-counts c = counted (c .before .before .before)
 
@@ -47,4 +50,4 @@ returns c = let l = c .before .loop in (l .inv .1, rw (take-all (l .i) _ (c .loo
 pub count-hashes-spec : {M : Type 1} → statement M
 count-hashes-spec =
     tie.close
-    (tie.spec Inv-loop μ-loop loop-holds (λ c. search needs) (λ c. search needs) slice-read-one-more (λ c κs. search needs) slice-write-counts (λ c. search needs) (λ c. search needs) loop-again same-length returns)
+    (tie.spec Inv-loop μ-loop loop-holds (λ c. search needs) (λ c. search needs) slice-read-one-more one-more-requires slice-write-counts (λ c. search needs) (λ c. search needs) loop-again same-length returns)

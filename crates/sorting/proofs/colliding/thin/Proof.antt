@@ -1,48 +1,24 @@
--- `thin` meets its contract: few places stay, of many those are left that both filters leave.
+-- `thin` meets its contract: of the places with their hashes those stay whose hash another has, and two places that agree have one hash.
 use borrow.Author.Needs.{needs}
-use mathlib.Core.Path.{refl, sym}
-use native.Mathlib.Omega.{arith}
-use lib.ListN.{length-take}
-use lib.Seq.{take-length, length-take-le}
-use Rattle.sorting.proofs.Collisions.{thinned-none, thinned-keyed, thinned-twice}
+use mathlib.Core.Path.{ap, _∙_}
+use lib.ListN.{length, length-map}
+use Rattle.sorting.proofs.Collisions.{hashes-under, thinned}
 use Rattle.sorting.proofs.colliding.thin.Statement.{statement}
 use Rattle.sorting.proofs.colliding.thin.Tie as tie
 
+keep-colliding-requires : tie.Need-keep-colliding-requires
+keep-colliding-requires c κs =
+    let h : tie.After-hash-places = search in
+    let start : tie.Start = search in
+    let a = start .args in
+    let e = h .hash-places .ensures in
+    (ap length e ∙ length-map (a .w .now) _, hashes-under (a .second) (a .used) (a .size) (a .keys .now) (a .w .now) e)
+
 returns : tie.Need-returns
-returns c = (refl, omega arith, rw take-length (thinned-none _ _ _ _))
-
-slice-aggregate-keep-colliding : tie.Need-slice-aggregate-keep-colliding
-slice-aggregate-keep-colliding c =
-    let first : tie.After-keep-colliding = search in
-    let k = first .keep-colliding in
-    sym (length-take-le _ (k .last .1 .1 .1 .1 .0) (omega (arith, k .ensures .0, k .ensures .1)))
-
-slice-aggregate-keep-colliding-2 : tie.Need-slice-aggregate-keep-colliding-2
-slice-aggregate-keep-colliding-2 c =
-    let first : tie.After-keep-colliding = search in
-    let start : tie.Start = search in
-    let k = first .keep-colliding in
-    sym (length-take-le _ (k .last .1 .1 .1 .1 .1 .0) (omega (arith, start .pre .2, k .kept .1 .1 .1 .1 .1 .0, k .ensures .1)))
-
-keep-colliding-requires-2 : tie.Need-keep-colliding-requires-2
-keep-colliding-requires-2 c κs =
-    let first : tie.After-keep-colliding = search in
-    let start : tie.Start = search in
-    let p = start .pre in
-    let k = first .keep-colliding in
-    (thinned-keyed _ _ _ (k .ensures .2) (p .0), p .1, simp length-take (omega (arith, p .2, k .ensures .0, k .kept .1 .1 .1 .1 .1 .0)))
-
-returns-2 : tie.Need-returns-2
-returns-2 c =
-    let second : tie.After-keep-colliding2 = search in
-    let first : tie.After-keep-colliding = search in
-    let w = first .keep-colliding .last .1 .1 .1 .1 .0 in
-    let n = first .keep-colliding .result in
-    let e = first .keep-colliding .ensures in
-    let d = second .keep-colliding2 .ensures in
-    (search needs, omega (arith, d .1, length-take n w, e .0), thinned-twice _ _ _ w _ _ n _ (e .2) (d .0) (d .1) (d .2))
+returns c =
+    let h : tie.After-hash-places = search in
+    let e = c .before .before .before .before .keep-colliding .ensures in
+    (e .0, e .1, thinned _ _ _ _ (e .2 _ (h .hash-places .ensures)))
 
 pub thin-spec : {M : Type 1} → statement M
-thin-spec =
-    tie.close
-    (tie.spec returns (λ c κs. search needs) (λ c. search needs) slice-aggregate-keep-colliding (λ c. search needs) slice-aggregate-keep-colliding-2 keep-colliding-requires-2 (λ c. search needs) (λ c. search needs) returns-2)
+thin-spec = tie.close (tie.spec (λ c κs. search needs) keep-colliding-requires (λ c. search needs) (λ c. search needs) returns)

@@ -22,7 +22,7 @@ slice-aggregate-places-differ : tie.Need-slice-aggregate-places-differ
 slice-aggregate-places-differ c =
     let thinned : tie.After-thin = search in
     let t = thinned .thin in
-    sym (length-take-le _ (t .last .1 .1 .1 .0) (omega (arith, t .ensures .0, t .ensures .1)))
+    sym (length-take-le _ (t .last .1 .1 .1 .1 .0) (omega (arith, t .ensures .0, t .ensures .1)))
 
 slice-aggregate-places-differ-2 : tie.Need-slice-aggregate-places-differ-2
 slice-aggregate-places-differ-2 c =
@@ -30,7 +30,7 @@ slice-aggregate-places-differ-2 c =
     let numbered : tie.After-number = search in
     let start : tie.Start = search in
     let t = thinned .thin in
-    sym (length-take-le _ (t .last .1 .1 .1 .1 .0) (omega (arith, start .pre .1, numbered .number .kept .0, t .kept .1 .1 .1 .1 .0, t .ensures .1)))
+    sym (length-take-le _ (t .last .1 .1 .1 .1 .1 .0) (omega (arith, start .pre .1, numbered .number .kept .0, t .kept .1 .1 .1 .1 .1 .0, t .ensures .1)))
 
 places-differ-requires : tie.Need-places-differ-requires
 places-differ-requires c κs =
@@ -39,7 +39,7 @@ places-differ-requires c κs =
     let start : tie.Start = search in
     let t = thinned .thin in (
       thinned-keyed _ _ _ (t .ensures .2) (rw (numbered .number .ensures) (keyed-range _ _ _ (start .pre .0))),
-      simp length-take (omega (arith, start .pre .1, numbered .number .kept .0, t .kept .1 .1 .1 .1 .0, t .ensures .0)),
+      simp length-take (omega (arith, start .pre .1, numbered .number .kept .0, t .kept .1 .1 .1 .1 .1 .0, t .ensures .0)),
     )
 
 returns : tie.Need-returns

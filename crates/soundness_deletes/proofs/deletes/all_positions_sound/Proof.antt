@@ -16,11 +16,11 @@ use Rattle.soundness_deletes.proofs.deletes.all_positions_sound.Stateme
 use Rattle.soundness_deletes.proofs.deletes.all_positions_sound.Tie as tie
 
 abbrev Inv-loop : tie.InvT-loop
-Inv-loop files n run positions starts m i₀ i =
+Inv-loop files n run positions starts m places i₀ i =
     (i ≤ m) × (all (positionsSound (dataFilesIn files n)) (deleteFilesIn run positions m) ≡ all (positionsSound (dataFilesIn files n)) (from (deleteFileAt run positions) i m))
 
 abbrev μ-loop : tie.MeasureT-loop
-μ-loop files n run positions starts m i₀ i = m - i
+μ-loop files n run positions starts m places i₀ i = m - i
 
 loop-holds : tie.Need-loop-holds Inv-loop μ-loop
 loop-holds c = (omega arith, all-start _ _ _)
@@ -46,14 +46,14 @@ returns : tie.Need-returns Inv-loop μ-loop
 returns c =
     let read : tie.After-delete-file-at Inv-loop μ-loop = search in
     sym (read .before .before .loop .inv .1
-    ∙ all-failed _ _ _ _ (read .before .loop-test .taken) (read-sound _ (read .delete-file-at .ensures) (c .before .before .positions-of .ensures) (c .before .positions-sound .ensures)) (c .if1 .taken))
+    ∙ all-failed _ _ _ _ (read .before .loop-test .taken) (read-sound _ (read .delete-file-at .ensures) (c .before .before .before .positions-of .ensures) (c .before .positions-sound .ensures)) (c .if1 .taken))
 
 loop-again : tie.Need-loop-again Inv-loop μ-loop
 loop-again c =
     let read : tie.After-delete-file-at Inv-loop μ-loop = search in (
       omega arith,
       read .before .before .loop .inv .1
-          ∙ all-passed _ _ _ _ (read .before .loop-test .taken) (read-sound _ (read .delete-file-at .ensures) (c .before .before .positions-of .ensures) (c .before .positions-sound .ensures)) (c .if1 .left),
+          ∙ all-passed _ _ _ _ (read .before .loop-test .taken) (read-sound _ (read .delete-file-at .ensures) (c .before .before .before .positions-of .ensures) (c .before .positions-sound .ensures)) (c .if1 .left),
     )
 
 returns-2 : tie.Need-returns-2 Inv-loop μ-loop
@@ -62,4 +62,4 @@ returns-2 c = sym (c .before .loop .inv .1 ∙ all-end _ _ _ _ (c .loop-test .le
 pub all-positions-sound-spec : {M : Type 1} → statement M
 all-positions-sound-spec =
     tie.close
-    (tie.spec Inv-loop μ-loop loop-holds delete-file-at-requires (λ c. search needs) shared-slice-read-positions-of positions-of-requires (λ c κs. search needs) returns (λ c. search needs) (λ c. search needs) loop-again returns-2)
+    (tie.spec Inv-loop μ-loop loop-holds delete-file-at-requires (λ c. search needs) shared-slice-read-positions-of positions-of-requires (λ c κs. search needs) (λ c κs. search needs) returns (λ c. search needs) (λ c. search needs) loop-again returns-2)

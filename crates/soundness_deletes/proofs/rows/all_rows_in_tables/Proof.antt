@@ -16,34 +16,38 @@ use Rattle.soundness_deletes.proofs.rows.all_rows_in_tables.Statement.{
 use Rattle.soundness_deletes.proofs.rows.all_rows_in_tables.Tie as tie
 
 abbrev Inv-loop : tie.InvT-loop
-Inv-loop tables files counts i₀ i =
+Inv-loop tables files counts places i₀ i =
     (i ≤ counts .«data_files») × ((names : List ℕ) → all (rowsInTable (tablesIn tables names (counts .tables))) (dataFilesIn files (counts .«data_files»))
     ≡ all (rowsInTable (tablesIn tables names (counts .tables))) (from (dataFileAt files) i (counts .«data_files»)))
 
 abbrev μ-loop : tie.MeasureT-loop
-μ-loop tables files counts i₀ i = counts .«data_files» - i
+μ-loop tables files counts places i₀ i = counts .«data_files» - i
 
 loop-holds : tie.Need-loop-holds Inv-loop μ-loop
 loop-holds c = (omega arith, λ names. all-start _ _ _)
 
 data-file-at-requires : tie.Need-data-file-at-requires Inv-loop μ-loop
-data-file-at-requires c κs = record-fits dataFileSize (c .if1 .taken) (c .before .before .before .before .before .pre .dataFilesLent)
+data-file-at-requires c κs = let start : tie.Start Inv-loop μ-loop = search in record-fits dataFileSize (c .if1 .taken) (start .pre .dataFilesLent)
 
 rows-in-table-requires : tie.Need-rows-in-table-requires Inv-loop μ-loop
 rows-in-table-requires c κs =
     let start : tie.Start Inv-loop μ-loop = search in
-    (start .pre .tablesById, in-range-at (start .pre) (c .before .if1 .taken) (c .data-file-at .ensures))
+    let turn : tie.Then1 Inv-loop μ-loop = search in
+    let read : tie.After-data-file-at Inv-loop μ-loop = search in
+    (start .pre .tablesById, in-range-at (start .pre) (turn .if1 .taken) (read .data-file-at .ensures))
 
 returns : tie.Need-returns Inv-loop μ-loop
 returns c names =
-    let s = c .before .before in
-    sym (s .before .before .before .loop .inv .1 names ∙ all-failed _ _ _ _ (s .before .if1 .taken) (rows-read _ (s .data-file-at .ensures) (c .before .rows-in-table .ensures names)) (c .if2 .taken))
+    let turn : tie.Then1 Inv-loop μ-loop = search in
+    let read : tie.After-data-file-at Inv-loop μ-loop = search in
+    sym (turn .before .before .loop .inv .1 names ∙ all-failed _ _ _ _ (turn .if1 .taken) (rows-read _ (read .data-file-at .ensures) (c .before .rows-in-table .ensures names)) (c .if2 .taken))
 
 loop-again : tie.Need-loop-again Inv-loop μ-loop
 loop-again c =
-    let s = c .before .before in (
-      omega (arith, s .before .if1 .taken),
-      λ names. s .before .before .before .loop .inv .1 names ∙ all-passed _ _ _ _ (s .before .if1 .taken) (rows-read _ (s .data-file-at .ensures) (c .before .rows-in-table .ensures names)) (c .if2 .left),
+    let turn : tie.Then1 Inv-loop μ-loop = search in
+    let read : tie.After-data-file-at Inv-loop μ-loop = search in (
+      omega (arith, turn .if1 .taken),
+      λ names. turn .before .before .loop .inv .1 names ∙ all-passed _ _ _ _ (turn .if1 .taken) (rows-read _ (read .data-file-at .ensures) (c .before .rows-in-table .ensures names)) (c .if2 .left),
     )
 
 returns-2 : tie.Need-returns-2 Inv-loop μ-loop
@@ -52,4 +56,4 @@ returns-2 c names = sym (c .before .before .loop .inv .1 names ∙ all-end _ _ _
 pub all-rows-in-tables-spec : {M : Type 1} → statement M
 all-rows-in-tables-spec =
     tie.close
-    (tie.spec Inv-loop μ-loop loop-holds data-file-at-requires rows-in-table-requires returns (λ c. search needs) (λ c. search needs) loop-again returns-2)
+    (tie.spec Inv-loop μ-loop loop-holds data-file-at-requires (λ c κs. search needs) rows-in-table-requires returns (λ c. search needs) (λ c. search needs) loop-again returns-2)

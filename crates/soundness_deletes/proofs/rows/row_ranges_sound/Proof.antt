@@ -13,7 +13,7 @@ unfolding load rowRangesSound
 returns c w t f = rw (t, f) (sym (rw (failed (c .before .all-rows-in-tables .ensures (w .tableNames)) (c .if1 .taken), and-false) refl))
 
 rows-ascend-requires : tie.Need-rows-ascend-requires
-rows-ascend-requires c κs = (c .before .before .before .before .pre, λ names. passed (c .before .all-rows-in-tables .ensures names) (c .if1 .left))
+rows-ascend-requires c κs = (c .before .before .before .before .before .pre, λ names. passed (c .before .all-rows-in-tables .ensures names) (c .if1 .left))
 
 returns-2 : tie.Need-returns-2
 unfolding load rowRangesSound

@@ -15,26 +15,30 @@ use Rattle.soundness_lives.proofs.lives.all_lives_sound.Statement.{stat
 use Rattle.soundness_lives.proofs.lives.all_lives_sound.Tie as tie
 
 abbrev Inv-loop : tie.InvT-loop
-Inv-loop snapshots n w size at k i₀ i =
+Inv-loop snapshots n scale hints w size at k i₀ i =
     (i ≤ k) × (all (lifeSound (snapshotsIn snapshots n)) (livesIn size at w k) ≡ all (lifeSound (snapshotsIn snapshots n)) (from (λ j. withLife (lifeAt size at w j)) i k))
 
 abbrev μ-loop : tie.MeasureT-loop
-μ-loop snapshots n w size at k i₀ i = k - i
+μ-loop snapshots n scale hints w size at k i₀ i = k - i
 
 life-at-requires : tie.Need-life-at-requires Inv-loop μ-loop
-life-at-requires c κs = let p = c .before .before .before .before .pre in (record-fits _ (c .loop-test .taken) (p .2), p .3)
+life-at-requires c κs =
+    let start : tie.Start Inv-loop μ-loop = search in
+    (record-fits _ (c .loop-test .taken) (start .pre .3), start .pre .4)
 
 returns : tie.Need-returns Inv-loop μ-loop
 returns c =
-    let s = c .before .before in
-    let a = s .before .before .before .before .before .args in
+    let s = c .before .before .before in
+    let start : tie.Start Inv-loop μ-loop = search in
+    let a = start .args in
     sym (s .before .before .loop .inv .1
     ∙ all-failed _ _ _ _ (s .before .loop-test .taken) (c .before .life-sound .ensures ∙ ap (λ l. lifeSound (snapshotsIn (a .snapshots .now) (a .n)) (withLife l)) (s .life-at .ensures)) (c .if1 .taken))
 
 loop-again : tie.Need-loop-again Inv-loop μ-loop
 loop-again c =
-    let s = c .before .before in
-    let a = s .before .before .before .before .before .args in (
+    let s = c .before .before .before in
+    let start : tie.Start Inv-loop μ-loop = search in
+    let a = start .args in (
       omega arith,
       s .before .before .loop .inv .1
           ∙ all-passed _ _ _ _ (s .before .loop-test .taken) (c .before .life-sound .ensures ∙ ap (λ l. lifeSound (snapshotsIn (a .snapshots .now) (a .n)) (withLife l)) (s .life-at .ensures)) (c .if1 .left),
@@ -43,5 +47,5 @@ loop-again c =
 pub all-lives-sound-spec : {M : Type 1} → statement M
 all-lives-sound-spec =
     tie.close
-    (tie.spec Inv-loop μ-loop (λ c. (omega arith, all-start _ _ _)) life-at-requires (λ c κs. search needs) returns (λ c. search needs) (λ c. search needs) loop-again
+    (tie.spec Inv-loop μ-loop (λ c. (omega arith, all-start _ _ _)) life-at-requires (λ c κs. search needs) (λ c κs. search needs) returns (λ c. search needs) (λ c. search needs) loop-again
     (λ c. sym (c .before .loop .inv .1 ∙ all-end _ _ _ _ (c .loop-test .left))))

@@ -15,7 +15,7 @@ life-at-requires-2 : tie.Need-life-at-requires-2
 life-at-requires-2 c κs =
     let s = c .before .before .before in
     let p = s .before .before .before .before .before .pre in
-    (record-fits tableSize (found-tells _ _ _ (s .find-table .ensures) (c .before .found .given .1) .0) (p .0 .lent), search needs)
+    (record-fits tableSize (found-tells _ _ _ (s .find-table-near .ensures) (c .before .found .given .1) .0) (p .0 .lent), search needs)
 
 returns : tie.Need-returns
 unfolding sameLife
@@ -25,7 +25,7 @@ returns c t cs =
     let l = s .before .life-at .result in
     column-held _ t _ cs _ _ (s .before .before .column-table .ensures) (s .before .life-at .ensures)
     (c .same-life .ensures ∙ (ap (λ o. sameLife (withLife o) (withLife l)) (c .before .life-at2 .ensures)
-    ∙ sym (any-found (versionAt tableSize tableIdWord tableBeginWord (b .args .tables .now)) (λ v. v .id) _ _ (λ v. sameLife v (withLife l)) (b .pre .0 .ascending) (s .find-table .ensures) (c .before .before .before .found .given .1))))
+    ∙ sym (any-found (versionAt tableSize tableIdWord tableBeginWord (b .args .tables .now)) (λ v. v .id) _ _ (λ v. sameLife v (withLife l)) (b .pre .0 .ascending) (s .find-table-near .ensures) (c .before .before .before .found .given .1))))
 
 returns-2 : tie.Need-returns-2
 returns-2 c t cs =
@@ -33,7 +33,7 @@ returns-2 c t cs =
     let b = s .before .before .before .before .before in
     let l = s .before .life-at .result in
     column-held _ t _ cs _ _ (s .before .before .column-table .ensures) (s .before .life-at .ensures)
-    (sym (any-nowhere (versionAt tableSize tableIdWord tableBeginWord (b .args .tables .now)) (λ v. v .id) _ _ (λ v. sameLife v (withLife l)) (s .find-table .ensures) (c .enum-told .given .1)))
+    (sym (any-nowhere (versionAt tableSize tableIdWord tableBeginWord (b .args .tables .now)) (λ v. v .id) _ _ (λ v. sameLife v (withLife l)) (s .find-table-near .ensures) (c .enum-told .given .1)))
 
 pub column-nests-spec : {M : Type 1} → statement M
 column-nests-spec =

@@ -13,19 +13,19 @@ use Rattle.soundness_lives.proofs.nesting.columns_nest.Statement.{state
 use Rattle.soundness_lives.proofs.nesting.columns_nest.Tie as tie
 
 abbrev Inv-loop : tie.InvT-loop
-Inv-loop tables n columns m i₀ i = (i ≤ m) × ((t cs : List ℕ) → all (columnNests (tablesIn tables t n)) (columnsIn columns cs m) ≡ all (columnNests (tablesIn tables t n)) (from (columnAt columns cs) i m))
+Inv-loop tables n columns m places i₀ i = (i ≤ m) × ((t cs : List ℕ) → all (columnNests (tablesIn tables t n)) (columnsIn columns cs m) ≡ all (columnNests (tablesIn tables t n)) (from (columnAt columns cs) i m))
 
 abbrev μ-loop : tie.MeasureT-loop
-μ-loop tables n columns m i₀ i = m - i
+μ-loop tables n columns m places i₀ i = m - i
 
 returns : tie.Need-returns Inv-loop μ-loop
 returns c t cs =
-    let b = c .before .before in
+    let b = c .before .before .before in
     sym (b .before .loop .inv .1 t cs ∙ all-failed _ _ _ _ (b .loop-test .taken) (c .before .column-nests .ensures t cs) (c .if1 .taken))
 
 loop-again : tie.Need-loop-again Inv-loop μ-loop
 loop-again c =
-    let b = c .before .before in
+    let b = c .before .before .before in
     (omega arith, λ t cs. b .before .loop .inv .1 t cs ∙ all-passed _ _ _ _ (b .loop-test .taken) (c .before .column-nests .ensures t cs) (c .if1 .left))
 
 returns-2 : tie.Need-returns-2 Inv-loop μ-loop
@@ -34,4 +34,4 @@ returns-2 c t cs = sym (c .before .loop .inv .1 t cs ∙ all-end _ _ _ _ (c .loo
 pub columns-nest-spec : {M : Type 1} → statement M
 columns-nest-spec =
     tie.close
-    (tie.spec Inv-loop μ-loop (λ c. (omega arith, λ t cs. all-start _ _ _)) (λ c κs. search needs) returns (λ c. search needs) (λ c. search needs) loop-again returns-2)
+    (tie.spec Inv-loop μ-loop (λ c. (omega arith, λ t cs. all-start _ _ _)) (λ c κs. search needs) (λ c κs. search needs) returns (λ c. search needs) (λ c. search needs) loop-again returns-2)

@@ -14,23 +14,23 @@ use Rattle.soundness_lives.proofs.nesting.data_files_nest.Statement.{st
 use Rattle.soundness_lives.proofs.nesting.data_files_nest.Tie as tie
 
 abbrev Inv-loop : tie.InvT-loop
-Inv-loop tables n files m i₀ i = (i ≤ m) × ((t : List ℕ) → all (dataFileNests (tablesIn tables t n)) (dataFilesIn files m) ≡ all (dataFileNests (tablesIn tables t n)) (from (dataFileAt files) i m))
+Inv-loop tables n files m places i₀ i = (i ≤ m) × ((t : List ℕ) → all (dataFileNests (tablesIn tables t n)) (dataFilesIn files m) ≡ all (dataFileNests (tablesIn tables t n)) (from (dataFileAt files) i m))
 
 abbrev μ-loop : tie.MeasureT-loop
-μ-loop tables n files m i₀ i = m - i
+μ-loop tables n files m places i₀ i = m - i
 
 returns : tie.Need-returns Inv-loop μ-loop
 returns c t =
     let b = c .before .before .before in
-    sym (b .before .before .loop .inv .1 t
-    ∙ all-failed _ _ _ _ (b .before .loop-test .taken) (data-file-held _ t _ _ _ (b .data-file-table .ensures) (c .before .before .life-at .ensures) (c .before .is-held .ensures)) (c .if1 .taken))
+    sym (b .before .before .before .loop .inv .1 t
+    ∙ all-failed _ _ _ _ (b .before .before .loop-test .taken) (data-file-held _ t _ _ _ (b .data-file-table .ensures) (c .before .before .life-at .ensures) (c .before .is-held .ensures)) (c .if1 .taken))
 
 loop-again : tie.Need-loop-again Inv-loop μ-loop
 loop-again c =
     let b = c .before .before .before in (
       omega arith,
-      λ t. b .before .before .loop .inv .1 t
-          ∙ all-passed _ _ _ _ (b .before .loop-test .taken) (data-file-held _ t _ _ _ (b .data-file-table .ensures) (c .before .before .life-at .ensures) (c .before .is-held .ensures)) (c .if1 .left),
+      λ t. b .before .before .before .loop .inv .1 t
+          ∙ all-passed _ _ _ _ (b .before .before .loop-test .taken) (data-file-held _ t _ _ _ (b .data-file-table .ensures) (c .before .before .life-at .ensures) (c .before .is-held .ensures)) (c .if1 .left),
     )
 
 returns-2 : tie.Need-returns-2 Inv-loop μ-loop
@@ -39,4 +39,4 @@ returns-2 c t = sym (c .before .loop .inv .1 t ∙ all-end _ _ _ _ (c .loop-test
 pub data-files-nest-spec : {M : Type 1} → statement M
 data-files-nest-spec =
     tie.close
-    (tie.spec Inv-loop μ-loop (λ c. (omega arith, λ t. all-start _ _ _)) (λ c κs. search needs) (λ c κs. search needs) (λ c κs. search needs) returns (λ c. search needs) (λ c. search needs) loop-again returns-2)
+    (tie.spec Inv-loop μ-loop (λ c. (omega arith, λ t. all-start _ _ _)) (λ c κs. search needs) (λ c κs. search needs) (λ c κs. search needs) (λ c κs. search needs) returns (λ c. search needs) (λ c. search needs) loop-again returns-2)

@@ -13,19 +13,19 @@ use Rattle.soundness_lives.proofs.nesting.delete_files_nest.Statement.{
 use Rattle.soundness_lives.proofs.nesting.delete_files_nest.Tie as tie
 
 abbrev Inv-loop : tie.InvT-loop
-Inv-loop files n deletes m i₀ i = (i ≤ m) × ((p : List ℕ) → all (deleteFileNests (dataFilesIn files n)) (deleteFilesIn deletes p m) ≡ all (deleteFileNests (dataFilesIn files n)) (from (deleteFileAt deletes p) i m))
+Inv-loop files n deletes m places i₀ i = (i ≤ m) × ((p : List ℕ) → all (deleteFileNests (dataFilesIn files n)) (deleteFilesIn deletes p m) ≡ all (deleteFileNests (dataFilesIn files n)) (from (deleteFileAt deletes p) i m))
 
 abbrev μ-loop : tie.MeasureT-loop
-μ-loop files n deletes m i₀ i = m - i
+μ-loop files n deletes m places i₀ i = m - i
 
 returns : tie.Need-returns Inv-loop μ-loop
 returns c p =
-    let b = c .before .before in
+    let b = c .before .before .before in
     sym (b .before .loop .inv .1 p ∙ all-failed _ _ _ _ (b .loop-test .taken) (c .before .delete-file-nests .ensures p) (c .if1 .taken))
 
 loop-again : tie.Need-loop-again Inv-loop μ-loop
 loop-again c =
-    let b = c .before .before in
+    let b = c .before .before .before in
     (omega arith, λ p. b .before .loop .inv .1 p ∙ all-passed _ _ _ _ (b .loop-test .taken) (c .before .delete-file-nests .ensures p) (c .if1 .left))
 
 returns-2 : tie.Need-returns-2 Inv-loop μ-loop
@@ -34,4 +34,4 @@ returns-2 c p = sym (c .before .loop .inv .1 p ∙ all-end _ _ _ _ (c .loop-test
 pub delete-files-nest-spec : {M : Type 1} → statement M
 delete-files-nest-spec =
     tie.close
-    (tie.spec Inv-loop μ-loop (λ c. (omega arith, λ p. all-start _ _ _)) (λ c κs. search needs) returns (λ c. search needs) (λ c. search needs) loop-again returns-2)
+    (tie.spec Inv-loop μ-loop (λ c. (omega arith, λ p. all-start _ _ _)) (λ c κs. search needs) (λ c κs. search needs) returns (λ c. search needs) (λ c. search needs) loop-again returns-2)

@@ -14,23 +14,23 @@ use Rattle.soundness_lives.proofs.nesting.tables_nest.Statement.{statem
 use Rattle.soundness_lives.proofs.nesting.tables_nest.Tie as tie
 
 abbrev Inv-loop : tie.InvT-loop
-Inv-loop schemas n tables m i₀ i = (i ≤ m) × ((s t : List ℕ) → all (tableNests (schemasIn schemas s n)) (tablesIn tables t m) ≡ all (tableNests (schemasIn schemas s n)) (from (tableAt tables t) i m))
+Inv-loop schemas n tables m places i₀ i = (i ≤ m) × ((s t : List ℕ) → all (tableNests (schemasIn schemas s n)) (tablesIn tables t m) ≡ all (tableNests (schemasIn schemas s n)) (from (tableAt tables t) i m))
 
 abbrev μ-loop : tie.MeasureT-loop
-μ-loop schemas n tables m i₀ i = m - i
+μ-loop schemas n tables m places i₀ i = m - i
 
 returns : tie.Need-returns Inv-loop μ-loop
 returns c s t =
     let b = c .before .before .before in
-    sym (b .before .before .loop .inv .1 s t
-    ∙ all-failed _ _ _ _ (b .before .loop-test .taken) (table-held _ s _ t _ _ (b .table-schema .ensures) (c .before .before .life-at .ensures) (c .before .is-held .ensures)) (c .if1 .taken))
+    sym (b .before .before .before .loop .inv .1 s t
+    ∙ all-failed _ _ _ _ (b .before .before .loop-test .taken) (table-held _ s _ t _ _ (b .table-schema .ensures) (c .before .before .life-at .ensures) (c .before .is-held .ensures)) (c .if1 .taken))
 
 loop-again : tie.Need-loop-again Inv-loop μ-loop
 loop-again c =
     let b = c .before .before .before in (
       omega arith,
-      λ s t. b .before .before .loop .inv .1 s t
-          ∙ all-passed _ _ _ _ (b .before .loop-test .taken) (table-held _ s _ t _ _ (b .table-schema .ensures) (c .before .before .life-at .ensures) (c .before .is-held .ensures)) (c .if1 .left),
+      λ s t. b .before .before .before .loop .inv .1 s t
+          ∙ all-passed _ _ _ _ (b .before .before .loop-test .taken) (table-held _ s _ t _ _ (b .table-schema .ensures) (c .before .before .life-at .ensures) (c .before .is-held .ensures)) (c .if1 .left),
     )
 
 returns-2 : tie.Need-returns-2 Inv-loop μ-loop
@@ -39,4 +39,4 @@ returns-2 c s t = sym (c .before .loop .inv .1 s t ∙ all-end _ _ _ _ (c .loop-
 pub tables-nest-spec : {M : Type 1} → statement M
 tables-nest-spec =
     tie.close
-    (tie.spec Inv-loop μ-loop (λ c. (omega arith, λ s t. all-start _ _ _)) (λ c κs. search needs) (λ c κs. search needs) (λ c κs. search needs) returns (λ c. search needs) (λ c. search needs) loop-again returns-2)
+    (tie.spec Inv-loop μ-loop (λ c. (omega arith, λ s t. all-start _ _ _)) (λ c κs. search needs) (λ c κs. search needs) (λ c κs. search needs) (λ c κs. search needs) returns (λ c. search needs) (λ c. search needs) loop-again returns-2)

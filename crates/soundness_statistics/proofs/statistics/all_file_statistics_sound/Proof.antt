@@ -16,13 +16,13 @@ use Rattle.soundness_statistics.proofs.statistics.all_file_statistics_s
 use Rattle.soundness_statistics.proofs.statistics.all_file_statistics_sound.Tie as tie
 
 abbrev Inv-loop : tie.InvT-loop
-Inv-loop columns data-files statistics counts m i₀ near₀ i near =
+Inv-loop columns data-files statistics counts places starts n m i₀ near₀ i near =
     (i ≤ counts .«data_files») × ((names : List ℕ)
     → all (fileStatisticsSound (columnsIn columns names (counts .columns)) (statisticsIn statistics (counts .statistics))) (dataFilesIn data-files (counts .«data_files»))
     ≡ all (fileStatisticsSound (columnsIn columns names (counts .columns)) (statisticsIn statistics (counts .statistics))) (from (dataFileAt data-files) i (counts .«data_files»)))
 
 abbrev μ-loop : tie.MeasureT-loop
-μ-loop columns data-files statistics counts m i₀ near₀ i near = counts .«data_files» - i
+μ-loop columns data-files statistics counts places starts n m i₀ near₀ i near = counts .«data_files» - i
 
 loop-holds : tie.Need-loop-holds Inv-loop μ-loop
 loop-holds c = (omega arith, λ names. all-start _ _ _)
@@ -32,11 +32,27 @@ data-file-at-requires c κs =
     let start : tie.Start Inv-loop μ-loop = search in
     record-fits dataFileSize (c .if1 .taken) (start .pre .dataFilesById .lent)
 
+statistics-between-requires : tie.Need-statistics-between-requires Inv-loop μ-loop
+statistics-between-requires c κs =
+    let s : tie.After-data-file-at Inv-loop μ-loop = search in
+    let start : tie.Start Inv-loop μ-loop = search in
+    start .pre .statisticsByFile
+
+file-statistics-sound-requires : tie.Need-file-statistics-sound-requires Inv-loop μ-loop
+file-statistics-sound-requires c κs =
+    let s : tie.After-data-file-at Inv-loop μ-loop = search in
+    let start : tie.Start Inv-loop μ-loop = search in
+    let own : tie.After-columns-between Inv-loop μ-loop = search in
+    (start .pre .columnsByTable, start .pre .statisticsByFile, own .columns-between .ensures, c .statistics-between .ensures)
+
 returns : tie.Need-returns Inv-loop μ-loop
 returns c names =
     let s : tie.After-data-file-at Inv-loop μ-loop = search in
     sym (s .before .before .before .loop .inv .1 names
     ∙ all-failed _ _ _ _ (s .before .if1 .taken) (file-read _ _ (s .data-file-at .ensures) (c .before .file-statistics-sound .ensures names)) (c .if2 .taken))
+
+add-i : tie.Need-add-i Inv-loop μ-loop
+add-i c = let s : tie.After-data-file-at Inv-loop μ-loop = search in omega (arith, s .before .if1 .taken, s .before .before .struct-known .given)
 
 loop-again : tie.Need-loop-again Inv-loop μ-loop
 loop-again c =
@@ -52,4 +68,5 @@ returns-2 c names = sym (c .before .before .loop .inv .1 names ∙ all-end _ _ _
 pub all-file-statistics-sound-spec : {M : Type 1} → statement M
 all-file-statistics-sound-spec =
     tie.close
-    (tie.spec Inv-loop μ-loop loop-holds data-file-at-requires (λ c κs. search needs) (λ c κs. search needs) returns (λ c. search needs) (λ c. search needs) loop-again returns-2)
+    (tie.spec Inv-loop μ-loop loop-holds data-file-at-requires (λ c κs. search needs) (λ c κs. search needs) (λ c κs. search needs) (λ c κs. search needs) (λ c κs. search needs)
+    (λ c κs. search needs) (λ c κs. search needs) (λ c κs. search needs) (λ c κs. search needs) statistics-between-requires file-statistics-sound-requires returns add-i (λ c. search needs) loop-again returns-2)

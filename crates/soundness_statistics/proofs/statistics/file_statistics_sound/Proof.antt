@@ -15,18 +15,19 @@ use Rattle.soundness_statistics.proofs.statistics.file_statistics_sound
 use Rattle.soundness_statistics.proofs.statistics.file_statistics_sound.Tie as tie
 
 abbrev Inv-loop : tie.InvT-loop
-Inv-loop columns n statistics m given file own c₀ x₀ c x =
+Inv-loop columns n statistics m own given file c₀ x₀ c x =
     (c ≤ own .end) × (own .end ≤ n) × (x ≤ given .end) × (given .end ≤ m)
     × ((names : List ℕ) → fileStatisticsSound (columnsIn columns names n) (statisticsIn statistics m) (dataFileOf file)
     ≡ judged columns names (statisticsAt statistics) (file .«record_count») (file .begin .0) (own .end) (given .end) c x)
 
 abbrev μ-loop : tie.MeasureT-loop
-μ-loop columns n statistics m given file own c₀ x₀ c x = own .end - c
+μ-loop columns n statistics m own given file c₀ x₀ c x = own .end - c
 
 loop-holds : tie.Need-loop-holds Inv-loop μ-loop
 loop-holds c =
-    let a = c .columns-of .ensures in
-    let b = c .before .before .before .pre .2 in
+    let start : tie.Start Inv-loop μ-loop = search in
+    let a = start .pre .2 in
+    let b = start .pre .3 in
     (a .order, a .most, b .order, b .most, λ names. judged-start _ names _ _ _ _ a b)
 
 column-at-requires : tie.Need-column-at-requires Inv-loop μ-loop
@@ -88,5 +89,5 @@ returns-3 c names = let l = c .before .before .before .loop .inv in sym (l .4 na
 pub file-statistics-sound-spec : {M : Type 1} → statement M
 file-statistics-sound-spec =
     tie.close
-    (tie.spec Inv-loop μ-loop (λ c κs. search needs) loop-holds column-at-requires (λ c. omega (arith, c .before .if1 .taken)) (λ c κs. search needs) returns statistics-at-requires
+    (tie.spec Inv-loop μ-loop loop-holds column-at-requires (λ c. omega (arith, c .before .if1 .taken)) (λ c κs. search needs) returns statistics-at-requires
     (λ c κs. search needs) returns-2 (λ c. omega (arith, c .before .before .before .if3 .left)) (λ c. search needs) loop-again (λ c. search needs) loop-again-2 returns-3)

@@ -1,6 +1,5 @@
 -- `orders_apart_by` meets its contract: keys of table, order and begin were put, and by them orders are compared.
 use borrow.Author.Needs.{needs}
-use mathlib.Core.Path.{sym, _∙_}
 use Rattle.soundness_unique.proofs.NameKeys.{orders-keyed, orders-are}
 use Rattle.soundness_unique.proofs.naming.orders_apart_by.Statement.{statement}
 use Rattle.soundness_unique.proofs.naming.orders_apart_by.Tie as tie
@@ -12,7 +11,7 @@ lives-apart-requires c κs =
     let first : tie.After-put-words = search in
     let start : tie.Start = search in
     let p = start .pre in
-    (orders-keyed _ _ (p .0) (first .put-words .ensures) (second .put-words2 .ensures) (third .put-words3 .ensures) (p .1 .places) (p .1 .room), p .1 .scratch ∙ sym (p .1 .places))
+    (orders-keyed _ _ (p .0) (first .put-words .ensures) (second .put-words2 .ensures) (third .put-words3 .ensures) (search needs) (p .1 .room), search needs)
 
 returns : tie.Need-returns
 returns c =
@@ -22,9 +21,9 @@ returns c =
     let first : tie.After-put-words = search in
     let start : tie.Start = search in
     let p = start .pre in
-    orders-are _ _ (p .0) (first .put-words .ensures) (second .put-words2 .ensures) (third .put-words3 .ensures) (p .1 .places) (decided .lives-apart .ensures)
+    orders-are _ _ (p .0) (first .put-words .ensures) (second .put-words2 .ensures) (third .put-words3 .ensures) (search needs) (decided .lives-apart .ensures)
 
 pub orders-apart-by-spec : {M : Type 1} → statement M
 orders-apart-by-spec =
     tie.close
-    (tie.spec (λ c κs. search needs) (λ c κs. search needs) (λ c κs. search needs) lives-apart-requires (λ c. search needs) (λ c. search needs) (λ c. search needs) returns)
+    (tie.spec (λ c κs. search needs) (λ c κs. search needs) (λ c κs. search needs) (λ c. search needs) (λ c. search needs) (λ c. search needs) (λ c. search needs) (λ c. search needs) (λ c. search needs) lives-apart-requires (λ c. search needs) (λ c. search needs) (λ c. search needs) returns)

@@ -1,25 +1,48 @@
--- `places_apart` meets its contract: in order, those that follow each other decide.
+-- `places_apart` meets its contract: whether any two clash is decided by the places left.
 use borrow.Author.Needs.{needs}
-use mathlib.Core.Path.{_∙_}
-use Rattle.sorting.proofs.KeyOrder.{keyed-permuted}
-use Rattle.soundness_unique.proofs.LifeOrder.{lives-sorted}
+use mathlib.Core.Path.{sym, _∙_}
+use native.Mathlib.Omega.{arith}
+use lib.ListN.{length-take}
+use lib.Seq.{length-take-le}
+use Rattle.sorting.proofs.Collisions.{thinned-keyed}
+use Rattle.soundness_unique.proofs.LifeOrder.{thinned-lent, lives-thinned}
 use Rattle.soundness_unique.proofs.naming.places_apart.Statement.{statement}
 use Rattle.soundness_unique.proofs.naming.places_apart.Tie as tie
 
-neighbours-apart-requires : tie.Need-neighbours-apart-requires
-neighbours-apart-requires c κs =
-    let sorted : tie.After-sort = search in
+slice-aggregate-sorted-apart : tie.Need-slice-aggregate-sorted-apart
+slice-aggregate-sorted-apart c =
+    let thinned : tie.After-thin = search in
+    let t = thinned .thin in
+    sym (length-take-le _ (t .last .1 .1 .1 .1 .0) (omega (arith, t .ensures .0, t .ensures .1)))
+
+slice-aggregate-sorted-apart-2 : tie.Need-slice-aggregate-sorted-apart-2
+slice-aggregate-sorted-apart-2 c =
+    let thinned : tie.After-thin = search in
+    let start : tie.Start = search in
+    let t = thinned .thin in
+    sym (length-take-le _ (t .last .1 .1 .1 .1 .1 .0) (omega (arith, start .pre .4, t .kept .1 .1 .1 .1 .1 .0, t .ensures .1)))
+
+sorted-apart-requires : tie.Need-sorted-apart-requires
+sorted-apart-requires c κs =
+    let thinned : tie.After-thin = search in
     let start : tie.Start = search in
     let p = start .pre in
-    let q = sorted .sort .ensures .1 in
-    (keyed-permuted _ _ _ _ q (p .0), keyed-permuted _ _ _ _ q (p .1), p .3)
+    let t = thinned .thin in (
+      thinned-keyed _ _ _ (t .ensures .2) (p .0),
+      thinned-lent _ _ (t .ensures .2) (p .1),
+      p .2,
+      p .3,
+      simp length-take (omega (arith, p .4, t .kept .1 .1 .1 .1 .1 .0, t .ensures .0)),
+    )
 
 returns : tie.Need-returns
 returns c n h m =
-    let sorted : tie.After-sort = search in
-    c .neighbours-apart .ensures ∙ lives-sorted _ _ _ _ _ h m (sorted .sort .ensures .1) (sorted .sort .ensures .2)
+    let decided : tie.After-sorted-apart = search in
+    let thinned : tie.After-thin = search in
+    let t = thinned .thin .ensures .2 in
+    decided .sorted-apart .ensures n h (t .within _ m) ∙ lives-thinned _ _ _ _ _ t
 
 pub places-apart-spec : {M : Type 1} → statement M
 places-apart-spec =
     tie.close
-    (tie.spec (λ c. search needs) (λ c κs. search needs) neighbours-apart-requires (λ c. search needs) (λ c. search needs) returns)
+    (tie.spec (λ c. search needs) (λ c κs. search needs) (λ c. search needs) slice-aggregate-sorted-apart (λ c. search needs) slice-aggregate-sorted-apart-2 sorted-apart-requires (λ c. search needs) (λ c. search needs) returns)

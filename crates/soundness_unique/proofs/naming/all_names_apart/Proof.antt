@@ -1,0 +1,95 @@
+-- `all_names_apart` meets its contract: records that share a group and a name share a hash, so those left decide, and by their keys names are compared.
+use borrow.Author.Needs.{needs}
+use mathlib.Core.Path.{sym}
+use native.Mathlib.Omega.{arith}
+use lib.ListN.{length-take}
+use lib.Seq.{length-take-le}
+use Rattle.layout.specs.Names.{nameSize}
+use Rattle.sorting.proofs.KeyOrder.{keyed-range}
+use Rattle.soundness_unique.specs.Naming.{nameKeySize}
+use Rattle.soundness_unique.proofs.LifeOrder.{kept-lent}
+use Rattle.soundness_unique.proofs.NameKeys.{names-hashed, names-kept, names-are}
+use Rattle.soundness_unique.proofs.naming.all_names_apart.Statement.{statement}
+use Rattle.soundness_unique.proofs.naming.all_names_apart.Tie as tie
+
+hash-names-requires : tie.Need-hash-names-requires
+hash-names-requires c κs =
+    let start : tie.Start = search in
+    let p = start .pre in
+    (rw (p .2) (p .0 .living .lent), p .0 .grouped, rw (p .2) (p .0 .namesLent))
+
+keep-colliding-requires : tie.Need-keep-colliding-requires
+keep-colliding-requires c κs =
+    let hashed : tie.After-hash-names = search in
+    let numbered : tie.After-number = search in
+    let start : tie.Start = search in
+    names-hashed (start .pre .0) (numbered .number .ensures) (start .pre .2) (hashed .hash-names .ensures)
+
+slice-aggregate-put-name-keys : tie.Need-slice-aggregate-put-name-keys
+slice-aggregate-put-name-keys c =
+    let kept : tie.After-keep-colliding = search in
+    let k = kept .keep-colliding in
+    sym (length-take-le _ (k .last .1 .0) (omega (arith, k .ensures .0, k .ensures .1)))
+
+put-name-keys-requires : tie.Need-put-name-keys-requires
+put-name-keys-requires c κs =
+    let kept : tie.After-keep-colliding = search in
+    let hashed : tie.After-hash-names = search in
+    let numbered : tie.After-number = search in
+    let start : tie.Start = search in
+    let p = start .pre in
+    let k = names-kept (p .0) (numbered .number .ensures) (p .2) (hashed .hash-names .ensures) (kept .keep-colliding .ensures .2) in (
+      kept-lent _ _ k (keyed-range _ _ _ (p .0 .living .lent)),
+      p .0 .grouped,
+      omega (arith, p .0 .living .inside),
+      kept-lent nameSize _ k (keyed-range nameSize _ _ (p .0 .namesLent)),
+      kept-lent nameKeySize _ k (keyed-range nameKeySize _ _ (p .1)),
+    )
+
+slice-aggregate-places-apart : tie.Need-slice-aggregate-places-apart
+slice-aggregate-places-apart c =
+    let kept : tie.After-keep-colliding = search in
+    let k = kept .keep-colliding in
+    sym (length-take-le _ (k .last .1 .0) (omega (arith, k .ensures .0, k .ensures .1)))
+
+slice-aggregate-places-apart-2 : tie.Need-slice-aggregate-places-apart-2
+slice-aggregate-places-apart-2 c =
+    let kept : tie.After-keep-colliding = search in
+    let hashed : tie.After-hash-names = search in
+    let numbered : tie.After-number = search in
+    let start : tie.Start = search in
+    let k = kept .keep-colliding in
+    sym (length-take-le _ (k .last .0) (omega (arith, start .pre .2, numbered .number .kept .0, hashed .hash-names .kept .1 .1 .1 .1 .0, k .kept .0, k .ensures .1)))
+
+places-apart-requires : tie.Need-places-apart-requires
+places-apart-requires c κs =
+    let put : tie.After-put-name-keys = search in
+    let kept : tie.After-keep-colliding = search in
+    let hashed : tie.After-hash-names = search in
+    let numbered : tie.After-number = search in
+    let start : tie.Start = search in
+    let p = start .pre in
+    let t = kept .keep-colliding in
+    let k = names-kept (p .0) (numbered .number .ensures) (p .2) (hashed .hash-names .ensures) (t .ensures .2) in (
+      kept-lent nameKeySize _ k (keyed-range nameKeySize _ _ (omega (arith, p .1, put .put-name-keys .ensures .0))),
+      kept-lent _ _ k (keyed-range _ _ _ (p .0 .living .lent)),
+      omega arith,
+      p .0 .living .inside,
+      simp length-take (omega (arith, p .2, numbered .number .kept .0, hashed .hash-names .kept .1 .1 .1 .1 .0, t .kept .0, t .ensures .0)),
+    )
+
+returns : tie.Need-returns
+returns c =
+    let decided : tie.After-places-apart = search in
+    let put : tie.After-put-name-keys = search in
+    let kept : tie.After-keep-colliding = search in
+    let hashed : tie.After-hash-names = search in
+    let numbered : tie.After-number = search in
+    let start : tie.Start = search in
+    let p = start .pre in
+    names-are (p .0) (names-kept (p .0) (numbered .number .ensures) (p .2) (hashed .hash-names .ensures) (kept .keep-colliding .ensures .2)) (put .put-name-keys .ensures .1) (decided .places-apart .ensures)
+
+pub all-names-apart-spec : {M : Type 1} → statement M
+all-names-apart-spec =
+    tie.close
+    (tie.spec (λ c κs. search needs) hash-names-requires keep-colliding-requires (λ c. search needs) slice-aggregate-put-name-keys put-name-keys-requires (λ c. search needs) slice-aggregate-places-apart (λ c. search needs) slice-aggregate-places-apart-2 places-apart-requires (λ c. search needs) (λ c. search needs) (λ c. search needs) returns)
