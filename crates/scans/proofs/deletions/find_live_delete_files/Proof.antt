@@ -9,14 +9,20 @@ use Rattle.scans.proofs.deletions.find_live_delete_files.Statement.{sta
 use Rattle.scans.proofs.deletions.find_live_delete_files.Tie as tie
 
 abbrev Inv-loop : tie.InvT-loop
-Inv-loop files n run m s places₀ j₀ places j = (j ≤ m) × (length places ≡ length places₀) × FoundFrom files n run m (s .0) places j
+Inv-loop files n run m s places₀ hints scale j₀ places j = (j ≤ m) × (length places ≡ length places₀) × FoundFrom files n run m (s .0) places j
 
 abbrev μ-loop : tie.MeasureT-loop
-μ-loop files n run m s places₀ j₀ places j = j
+μ-loop files n run m s places₀ hints scale j₀ places j = j
+
+fill-hints-requires : tie.Need-fill-hints-requires Inv-loop μ-loop
+fill-hints-requires c κs =
+    let start : tie.Start Inv-loop μ-loop = search in
+    let p = start .pre .byId in
+    (p .lent, p .inside)
 
 loop-holds : tie.Need-loop-holds Inv-loop μ-loop
 loop-holds c =
-    let t = c .before .before .before in
+    let t : tie.Start Inv-loop μ-loop = search in
     let a = t .args in
     (omega arith, refl, found-start (a .data-files .now) (a .n) (a .delete-files .now) (a .m) (a .s .0) (a .places .now) (t .pre .zeros))
 
@@ -29,7 +35,7 @@ loop-again c =
     let start : tie.Start Inv-loop μ-loop = search in
     let h = head .loop in (
       omega arith,
-      set .set-at-data-file .kept .1 .1 .1 .0 ∙ h .inv .1,
+      set .set-at-data-file .kept .1 .1 .1 .1 .0 ∙ h .inv .1,
       found-live _ _ _ _ _ _ (h .j) (h .j - 1) (omega arith) (omega arith) (live .before .before .life-at .ensures) (live .before .is-live .ensures) (h .inv .2) (start .pre .byId .ascending)
           (omega (arith, h .inv .1, start .pre .room)) (live .if1 .taken) (ap (λ f. f .0) (file .delete-file-data-file .ensures)) (set .set-at-data-file .ensures),
     )
@@ -55,5 +61,5 @@ returns c =
 pub find-live-delete-files-spec : {M : Type 1} → statement M
 find-live-delete-files-spec =
     tie.close
-    (tie.spec Inv-loop μ-loop loop-holds (λ c. search needs) (λ c κs. search needs) (λ c κs. search needs) (λ c κs. search needs) (λ c κs. search needs)
-    (λ c. search needs) loop-again (λ c. search needs) loop-again-2 same-length returns)
+    (tie.spec Inv-loop μ-loop (λ c. search needs) fill-hints-requires loop-holds (λ c. search needs) (λ c κs. search needs) (λ c κs. search needs) (λ c κs. search needs)
+    (λ c. search needs) (λ c κs. search needs) (λ c κs. search needs) (λ c. search needs) loop-again (λ c. search needs) loop-again-2 same-length returns)

@@ -8,21 +8,21 @@ use Rattle.scans.proofs.deletions.set_at_data_file.Statement.{statement
 use Rattle.scans.proofs.deletions.set_at_data_file.Tie as tie
 
 mul-numbers : tie.Need-mul-numbers
-mul-numbers c = omega (arith, found-tells _ _ _ (c .before .before .before .find-data-file .ensures) (c .before .found .given .1) .0)
+mul-numbers c = omega (arith, found-tells _ _ _ (c .before .before .before .find-data-file-near .ensures) (c .before .found .given .1) .0)
 
 slice-write-numbers : tie.Need-slice-write-numbers
-slice-write-numbers c = omega (arith, found-tells _ _ _ (c .before .before .before .find-data-file .ensures) (c .before .found .given .1) .0)
+slice-write-numbers c = omega (arith, found-tells _ _ _ (c .before .before .before .find-data-file-near .ensures) (c .before .found .given .1) .0)
 
 returns : tie.Need-returns
 returns c =
     let start : tie.Start = search in
     let a = start .args in
-    ap (λ r. setAt r (a .numbers .now) (a .x)) (sym (c .before .found .given .1) ∙ c .before .before .before .find-data-file .ensures)
+    ap (λ r. setAt r (a .numbers .now) (a .x)) (sym (c .before .found .given .1) ∙ c .before .before .before .find-data-file-near .ensures)
 
 returns-2 : tie.Need-returns-2
 returns-2 c =
     let a = c .before .before .before .before .before .args in
-    ap (λ r. setAt r (a .numbers .now) (a .x)) (sym (c .enum-told .given .1) ∙ c .before .before .find-data-file .ensures)
+    ap (λ r. setAt r (a .numbers .now) (a .x)) (sym (c .enum-told .given .1) ∙ c .before .before .find-data-file-near .ensures)
 
 pub set-at-data-file-spec : {M : Type 1} → statement M
 set-at-data-file-spec =
