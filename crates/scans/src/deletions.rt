@@ -18,7 +18,7 @@ use runs::hints::fill_hints;
 use runs::hints::hint;
 
 // Four hints for each place of a full table.
-const HINTS: usize = 4 * TABLE_LIMIT;
+pub const HINTS: usize = 4 * TABLE_LIMIT;
 
 // The number x at the place of the data file of that id: most often it is `near`.
 fn set_at_data_file(

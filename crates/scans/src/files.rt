@@ -12,9 +12,11 @@ ghost use Rattle.scans.specs.Deletions.{deleteIdAt, DeleteFilesFound};
 ghost use Rattle.scans.specs.Filters.{listedSize, inTable, isRead, filesRead};
 ghost use Rattle.scans.specs.Lent.{FilesLent};
 ghost use Rattle.scans.specs.Readable.{FilesSelectable, FilesReadable};
+use crate::deletions::HINTS;
 use crate::deletions::find_live_delete_files;
 use crate::filter::Filter;
 use crate::filter::file_passes;
+use crate::filter::fill_filter_hints;
 use layout::number::ABSENT;
 use layout::number::CatalogId;
 use layout::number::FileId;
@@ -33,6 +35,8 @@ use records::data_file::data_file_id;
 use records::data_file::data_file_table;
 use records::delete_file::delete_file_id;
 use refusals::checked::Checked;
+use runs::hints::Scale;
+use runs::hints::hint;
 
 // A file list has so many words a file: the file's id, and the delete file's or ABSENT.
 const LISTED_SIZE: usize = 2;
@@ -48,17 +52,19 @@ pub fn is_in_table(data_files: &[u64], i: usize, table: CatalogId, s: SnapshotId
     (holder.0 == table.0) & live
 }
 
-// Whether it is one that the filter keeps, too.
+// Whether it is one that the filter keeps, too. The hints tell where its statistics may be.
 fn is_read(
     data_files: &[u64],
     i: usize,
     statistics: &[u64],
     q: usize,
+    scale: Scale,
+    hints: &[u16],
     table: CatalogId,
     s: SnapshotId,
     filter: Filter,
 ) -> bool
-    requires { ⌜ FilesSelectable (now «data_files») (i + 1) (now statistics) q ⌝ }
+    requires { ⌜ FilesSelectable (now «data_files») (i + 1) (now statistics) q × (scale .shift < 64) ⌝ }
     ensures { λ r. ⌜ r ≡ isRead filter (statisticsIn (now (statistics .entry)) q) (table .0) (s .0) (dataFileAt (now («data_files» .entry)) i) ⌝ }
 {
     let there = is_in_table(data_files, i, table, s);
@@ -66,7 +72,8 @@ fn is_read(
         return false;
     }
     let id = data_file_id(data_files, i);
-    file_passes(statistics, q, id, filter)
+    let near = hint(scale, hints, id.0);
+    file_passes(statistics, q, id, near, filter)
 }
 
 // How many files are read.
@@ -75,18 +82,20 @@ fn count_files(
     n: usize,
     statistics: &[u64],
     q: usize,
+    scale: Scale,
+    hints: &[u16],
     table: CatalogId,
     s: SnapshotId,
     filter: Filter,
 ) -> usize
-    requires { ⌜ FilesSelectable (now «data_files») n (now statistics) q ⌝ }
+    requires { ⌜ FilesSelectable (now «data_files») n (now statistics) q × (scale .shift < 64) ⌝ }
     ensures { λ r. ⌜ (r ≤ n)
         × (r ≡ length (filesRead filter (statisticsIn (now (statistics .entry)) q) (dataFilesIn (now («data_files» .entry)) n) (s .0) (table .0))) ⌝ }
 {
     let mut k: usize = 0;
     let mut i: usize = 0;
     while i < n {
-        let read = is_read(data_files, i, statistics, q, table, s, filter);
+        let read = is_read(data_files, i, statistics, q, scale, hints, table, s, filter);
         i += 1;
         if read {
             k += 1;
@@ -134,6 +143,8 @@ fn list_files(
     m: usize,
     statistics: &[u64],
     q: usize,
+    scale: Scale,
+    hints: &[u16],
     places: &[usize],
     table: CatalogId,
     s: SnapshotId,
@@ -141,7 +152,7 @@ fn list_files(
     area: &mut [u64],
 )
     requires { ⌜ FilesSelectable (now «data_files») n (now statistics) q × DeleteFilesFound (now «data_files») n (now «delete_files») m (s .0) (now places)
-        × (deleteFileSize * m ≤ length (now «delete_files»)) ⌝ }
+        × (deleteFileSize * m ≤ length (now «delete_files»)) × (scale .shift < 64) ⌝ }
     requires { ⌜ listedSize * length (filesRead filter (statisticsIn (now statistics) q) (dataFilesIn (now «data_files») n) (s .0) (table .0))
         ≤ length (now area) ⌝ }
     ensures { λ _. ⌜ ((positions : List ℕ) → now (area .exit) ≡ overwrite (now (area .entry)) 0
@@ -152,7 +163,17 @@ fn list_files(
     let mut i: usize = 0;
     while i < n {
         let at = i;
-        let read = is_read(data_files, at, statistics, q, table, s, filter);
+        let read = is_read(
+            data_files,
+            at,
+            statistics,
+            q,
+            scale,
+            hints,
+            table,
+            s,
+            filter,
+        );
         i += 1;
         if read {
             write_listed(data_files, at, delete_files, places[at], area, k);
@@ -182,7 +203,20 @@ pub fn read_files(
     let n = counts.data_files;
     let m = counts.delete_files;
     let q = counts.statistics;
-    let length = LISTED_SIZE * count_files(data_files, n, statistics, q, table, s, filter);
+    let mut hints = [0u16; HINTS];
+    let scale = fill_filter_hints(statistics, q, filter, &mut hints);
+    let k = count_files(
+        data_files,
+        n,
+        statistics,
+        q,
+        scale,
+        &hints,
+        table,
+        s,
+        filter,
+    );
+    let length = LISTED_SIZE * k;
     if area.len() < length {
         return Answer {
             number: SHORT_ANSWER_AREA,
@@ -198,6 +232,8 @@ pub fn read_files(
         m,
         statistics,
         q,
+        scale,
+        &hints,
         &places,
         table,
         s,

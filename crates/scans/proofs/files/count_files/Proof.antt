@@ -12,16 +12,17 @@ use Rattle.scans.proofs.files.count_files.Statement.{statement}
 use Rattle.scans.proofs.files.count_files.Tie as tie
 
 abbrev Inv-loop : tie.InvT-loop
-Inv-loop files n statistics q table s filter k₀ i₀ k i =
+Inv-loop files n statistics q scale hints table s filter k₀ i₀ k i =
     (k ≤ i) × (i ≤ n) × (length (filesRead filter (statisticsIn statistics q) (dataFilesIn files n) (s .0) (table .0))
     ≡ counted (dataFileAt files) (isRead filter (statisticsIn statistics q) (table .0) (s .0)) n k i)
 
 abbrev μ-loop : tie.MeasureT-loop
-μ-loop files n statistics q table s filter k₀ i₀ k i = n - i
+μ-loop files n statistics q scale hints table s filter k₀ i₀ k i = n - i
 
 loop-holds : tie.Need-loop-holds Inv-loop μ-loop
 loop-holds c =
-    let a = c .before .before .args in
+    let start : tie.Start Inv-loop μ-loop = search in
+    let a = start .args in
     (omega arith, omega arith, ap length (read-both (a .filter) (statisticsIn (a .statistics .now) (a .q)) (dataFilesIn (a .data-files .now) (a .n)) (a .s .0) (a .table .0)) ∙ counted-start _ _ _)
 
 loop-again : tie.Need-loop-again Inv-loop μ-loop

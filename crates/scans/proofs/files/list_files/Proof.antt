@@ -10,11 +10,11 @@ use Rattle.scans.proofs.files.list_files.Statement.{statement}
 use Rattle.scans.proofs.files.list_files.Tie as tie
 
 abbrev Inv-loop : tie.InvT-loop
-Inv-loop files n run m statistics q places table s filter area₀ k₀ i₀ area k i =
+Inv-loop files n run m statistics q scale hints places table s filter area₀ k₀ i₀ area k i =
     (i ≤ n) × Listing files run statistics n m q (table .0) (s .0) filter area₀ area k i
 
 abbrev μ-loop : tie.MeasureT-loop
-μ-loop files n run m statistics q places table s filter area₀ k₀ i₀ area k i = n - i
+μ-loop files n run m statistics q scale hints places table s filter area₀ k₀ i₀ area k i = n - i
 
 loop-holds : tie.Need-loop-holds Inv-loop μ-loop
 loop-holds c =
@@ -45,7 +45,7 @@ add-k c =
     let read : tie.Then1 Inv-loop μ-loop = search in
     let head : tie.At-loop Inv-loop μ-loop = search in
     let start : tie.Start Inv-loop μ-loop = search in
-    omega (arith, has-room read, head .loop .inv .1 .long, start .good .1 .1 .1 .1 .1 .1 .1 .1 .1 .1 .0 .0)
+    omega (arith, has-room read, head .loop .inv .1 .long, start .good .1 .1 .1 .1 .1 .1 .1 .1 .1 .1 .1 .1 .0 .0)
 
 loop-again : tie.Need-loop-again Inv-loop μ-loop
 loop-again c =

@@ -13,26 +13,26 @@ use Rattle.scans.proofs.filter.file_admits.Statement.{statement}
 use Rattle.scans.proofs.filter.file_admits.Tie as tie
 
 abbrev Inv-loop : tie.InvT-loop
-Inv-loop statistics n column scalar end i₀ i =
+Inv-loop statistics n near column scalar end i₀ i =
     (i ≤ end) × (any (admitted column (signed scalar)) (from (statisticsAt statistics) i₀ end) ≡ any (admitted column (signed scalar)) (from (statisticsAt statistics) i end))
 
 abbrev μ-loop : tie.MeasureT-loop
-μ-loop statistics n column scalar end i₀ i = end - i
+μ-loop statistics n near column scalar end i₀ i = end - i
 
 loop-holds : tie.Need-loop-holds Inv-loop μ-loop
-loop-holds c = (c .statistics-of .ensures .order, refl)
+loop-holds c = (c .statistics-near .ensures .order, refl)
 
 statistics-at-requires : tie.Need-statistics-at-requires Inv-loop μ-loop
-statistics-at-requires c κs = omega (arith, c .before .before .statistics-of .ensures .most, c .before .before .before .before .pre .lent)
+statistics-at-requires c κs = omega (arith, c .before .before .statistics-near .ensures .most, c .before .before .before .before .pre .lent)
 
 returns : tie.Need-returns Inv-loop μ-loop
 returns c f e =
     let admits : tie.After-record-admits Inv-loop μ-loop = search in
     let turn : tie.In-loop Inv-loop μ-loop = search in
-    let own : tie.After-statistics-of Inv-loop μ-loop = search in
+    let own : tie.After-statistics-near Inv-loop μ-loop = search in
     let start : tie.Start Inv-loop μ-loop = search in
     let h = turn .before .loop in
-    sym (kept-block _ _ _ (toZ-ofZ (start .fits .scalar)) f e (own .statistics-of .ensures)
+    sym (kept-block _ _ _ (toZ-ofZ (start .fits .scalar)) f e (own .statistics-near .ensures)
     ∙ (h .inv .1 ∙ any-here _ _ _ _ (turn .loop-test .taken) (admitted-is (start .args .statistics .now) (h .i) _ _ (admits .before .statistics-at .ensures) (admits .record-admits .ensures) ∙ c .if1 .taken)))
 
 loop-again : tie.Need-loop-again Inv-loop μ-loop
@@ -45,9 +45,9 @@ loop-again c =
 
 returns-2 : tie.Need-returns-2 Inv-loop μ-loop
 returns-2 c f e =
-    let own : tie.After-statistics-of Inv-loop μ-loop = search in
+    let own : tie.After-statistics-near Inv-loop μ-loop = search in
     let start : tie.Start Inv-loop μ-loop = search in
-    sym (kept-block _ _ _ (toZ-ofZ (start .fits .scalar)) f e (own .statistics-of .ensures) ∙ (c .before .loop .inv .1 ∙ any-over _ _ _ _ (c .loop-test .left)))
+    sym (kept-block _ _ _ (toZ-ofZ (start .fits .scalar)) f e (own .statistics-near .ensures) ∙ (c .before .loop .inv .1 ∙ any-over _ _ _ _ (c .loop-test .left)))
 
 pub file-admits-spec : {M : Type 1} → statement M
 file-admits-spec =
