@@ -83,19 +83,3 @@ pub fn statistics_between(
     let end = count_through(statistics, size, word, n, data_file.0, last);
     Block { start, end }
 }
-
-// The statistics of a data file.
-pub fn statistics_of(statistics: &[u64], n: usize, data_file: FileId) -> Block
-    requires { ⌜ StatisticsByFile (now statistics) n ⌝ }
-    ensures { λ r. ⌜ Together (field statisticsSize statisticsDataFileWord (now (statistics .entry))) n («data_file» .0) (r .start) (r .end) ⌝ }
-{
-    let size = StatisticsRecord::SIZE;
-    let near = interpolate(
-        statistics,
-        size,
-        StatisticsRecord::DATA_FILE,
-        n,
-        data_file.0,
-    );
-    statistics_near(statistics, n, data_file, near)
-}
