@@ -1,9 +1,11 @@
 //! How long a check takes on each content, in plain passes over the same words and name bytes.
 
 use crate::contents::{Content, CONTENTS};
+use crate::limits;
 use crate::proved;
 use crate::runs;
-use crate::timed;
+use crate::shapes::{Shape, SHAPES};
+use crate::timed::{self, Timed};
 use second::lent::RECORD_LIMIT;
 use std::fmt::Write as _;
 use std::hint::black_box;
@@ -12,15 +14,16 @@ use std::time::Duration;
 /// Records of each kind: the limit, parts of it, and one.
 const SIZES: [usize; 5] = [RECORD_LIMIT, RECORD_LIMIT / 2, RECORD_LIMIT / 4, RECORD_LIMIT / 16, 1];
 
-/// So often each is measured, and the least taken.
+/// So often each is measured, and the least taken; of tables as calls leave them, which are measured by themselves, more often.
 const ROUNDS: usize = 10;
+const ROUNDS_BY_ITSELF: usize = 200;
 
 struct Times {
     check: Duration,
     pass: Duration,
 }
 
-/// A line for each content: passes to a check at each size, and the milliseconds of a check at the limits.
+/// A line for each content: passes to a check at each size, and the milliseconds of a check at the limits. Then the same of tables as calls leave them.
 pub fn run() -> Result<String, String> {
     let sizes: String = SIZES.iter().map(|size| format!(" {size} |")).collect();
     let mut text = format!("| content |{sizes} least ms at {RECORD_LIMIT} |\n|---|{}---|", "---|".repeat(SIZES.len()));
@@ -29,7 +32,35 @@ pub fn run() -> Result<String, String> {
         let passes: String = times.iter().map(|times| format!(" {:.1} |", times.check.as_secs_f64() / times.pass.as_secs_f64())).collect();
         let _ = write!(text, "\n| {} |{passes} {:.1} |", content.says, times[0].check.as_secs_f64() * 1e3);
     }
+    for shape in SHAPES {
+        let _ = write!(text, "\n{}", left_by_calls(shape)?);
+    }
     Ok(text)
+}
+
+/// The line of tables as calls leave them, at the limits and at a sixteenth; the shape whose positions don't fit there has none.
+fn left_by_calls(shape: Shape) -> Result<String, String> {
+    let mut cells = Vec::new();
+    let mut milliseconds = 0.0;
+    for size in SIZES {
+        let is_asked = size == RECORD_LIMIT || size == RECORD_LIMIT / 16 && shape != Shape::LongDelete;
+        if !is_asked {
+            cells.push(String::new());
+            continue;
+        }
+        let (full, _) = limits::full(shape, size - 2, size)?;
+        let mut timed = Timed::new(full.proved);
+        let mut least = Times { check: Duration::MAX, pass: Duration::MAX };
+        for _ in 0..ROUNDS_BY_ITSELF {
+            least.check = least.check.min(timed.check());
+            least.pass = least.pass.min(timed.pass());
+        }
+        cells.push(format!("{:.1}", least.check.as_secs_f64() / least.pass.as_secs_f64()));
+        if size == RECORD_LIMIT {
+            milliseconds = least.check.as_secs_f64() * 1e3;
+        }
+    }
+    Ok(format!("| as calls leave them: {} | {} | {milliseconds:.1} |", shape.says(), cells.join(" | ")))
 }
 
 /// The least times of checks and of passes over as many copies of tables of n records as fill the limits, all in one run of words and one of name bytes. They
