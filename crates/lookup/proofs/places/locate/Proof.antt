@@ -2,15 +2,11 @@
 use borrow.Author.Needs.{needs}
 use Prim.Native.Nat.{_-_, _≤_}
 use native.Mathlib.Omega.{arith}
-use mathlib.Core.Path.{_≡_, refl, _∙_}
+use mathlib.Core.Path.{_≡_, refl}
 use lib.ListN.{length}
 use Rattle.lists.proofs.Runs.{record-fits}
 use Rattle.lookup.proofs.places.locate.Statement.{statement}
 use Rattle.lookup.proofs.places.locate.Tie as tie
-use Rattle.lookup.proofs.places.locate.Statement.{statement}
-use Rattle.lookup.proofs.places.locate.Tie as tie
-
--- `locate` meets its contract: every look is within its run.
 
 abbrev Inv-loop : tie.InvT-loop
 Inv-loop w size word m to to-size id-word n hints places₀ scale i₀ places i = (i ≤ m) × (length places ≡ length places₀)

@@ -2,15 +2,11 @@
 use borrow.Author.Needs.{needs}
 use Prim.Native.Nat.{_≤_}
 use native.Mathlib.Omega.{arith}
-use mathlib.Core.Path.{_≡_, refl, _∙_}
+use mathlib.Core.Path.{_≡_, refl}
 use lib.ListN.{length}
 use Rattle.lists.proofs.Runs.{record-fits}
 use Rattle.runs.proofs.hints.fill_hints.Statement.{statement}
 use Rattle.runs.proofs.hints.fill_hints.Tie as tie
-use Rattle.runs.proofs.hints.fill_hints.Statement.{statement}
-use Rattle.runs.proofs.hints.fill_hints.Tie as tie
-
--- `fill_hints` meets its contract: every look is within its run.
 
 abbrev Inv-loop : tie.InvT-loop
 Inv-loop w size at n hints₀ first last k shift i₀ hints i = (i ≤ n) × (length hints ≡ length hints₀)

@@ -2,14 +2,9 @@
 use borrow.Author.Needs.{needs}
 use mathlib.Core.Path.{_∙_}
 use native.Mathlib.Omega.{arith}
-use Rattle.soundness.specs.Scratch.{RecordsHold}
 use Rattle.soundness.proofs.TestPremises.{snapshots-lent, nestable}
 use Rattle.soundness.proofs.check.unsound_by.Statement.{statement}
 use Rattle.soundness.proofs.check.unsound_by.Tie as tie
-use Rattle.soundness.proofs.check.unsound_by.Statement.{statement}
-use Rattle.soundness.proofs.check.unsound_by.Tie as tie
-
--- `unsound_by` meets its contract: a line of the records that fails is the answer, else the answer is among the others.
 
 -- places further back than a search goes, by steps
 abbrev told : tie.After-locate-references → tie.Else1

@@ -1,15 +1,10 @@
 -- `compare` meets its contract: each test is made on tables whose records hold, in scratch that stays as long.
 use borrow.Author.Needs.{needs}
 use mathlib.Core.Path.{refl, _∙_}
-use Rattle.soundness.specs.Scratch.{Scratch}
 use Rattle.soundness.proofs.Scratches.{files-scratch, names-scratch, scratch-kept}
 use Rattle.soundness.proofs.TestPremises.{files-lent, named}
 use Rattle.soundness.proofs.relations.compare.Statement.{statement}
 use Rattle.soundness.proofs.relations.compare.Tie as tie
-use Rattle.soundness.proofs.relations.compare.Statement.{statement}
-use Rattle.soundness.proofs.relations.compare.Tie as tie
-
--- `compare` meets its contract: each test is made on tables whose records hold, in scratch that stays as long.
 
 -- a place further back than a search goes from the last call
 abbrev begun : tie.After-files-distinct → tie.Start

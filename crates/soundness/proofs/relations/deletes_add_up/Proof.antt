@@ -11,10 +11,6 @@ use Rattle.soundness.proofs.Scratches.{deletes-scratch}
 use Rattle.soundness.proofs.TestPremises.{delete-files-lent, deletes-checkable}
 use Rattle.soundness.proofs.relations.deletes_add_up.Statement.{statement}
 use Rattle.soundness.proofs.relations.deletes_add_up.Tie as tie
-use Rattle.soundness.proofs.relations.deletes_add_up.Statement.{statement}
-use Rattle.soundness.proofs.relations.deletes_add_up.Tie as tie
-
--- `deletes_add_up` meets its contract: delete files are looked at where positions add up.
 
 abbrev words-of : {c : Counts} (w : Words) → RecordsHold w c → Words
 words-of w h = w
