@@ -11,7 +11,7 @@ help:
 	@awk -F ' *## *' '/^[a-z-]+:.*##/ { sub(/:.*/, "", $$1); printf "make %-12s %s\n", $$1, $$2 }' $(firstword $(MAKEFILE_LIST))
 
 # Proves every crate from nothing, tries the must-fail edits, runs the programs and the scripts of tests/.
-test: ## prove everything from nothing, try the must-fail edits, run the tests: about 23 minutes
+test: ## prove everything from nothing, try the must-fail edits, run the tests: about 25 minutes
 	@sh tests/run
 
 # Every must-fail edit, those that the gate has no time for too.

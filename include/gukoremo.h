@@ -11,7 +11,7 @@
  *     runs and arguments may overlap each other.
  *   - A run of words begins at a multiple of 8 bytes. Lengths are in words, and for names in bytes. A run of length 0 may have a null pointer.
  *   - A run may be longer than whole records need, and longer than the limits below: the rest is not used.
- *   - A call takes less than 1 MiB of the stack, most of it for the check of the tables (869 KiB measured at the limits, in a list).
+ *   - A call takes less than 1 MiB of the stack, most of it for the check of the tables (622 KiB measured at the limits, in a list).
  *
  * What each call does is `Promise` in crates/ducklake/specs/Calls.antt, of a list of calls `SessionPromise` in crates/call_lists/specs/Playing.antt, and of the
  * last `firstUnsound` in Soundness.antt beside the first. Words in quotes are those of document 01.

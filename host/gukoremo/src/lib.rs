@@ -35,7 +35,7 @@
 //! # Time and stack
 //!
 //! Each call first checks the tables; a list checks them once, where they are sound and left so by calls. The compiled calls take no heap, and at most 1 MiB
-//! of the stack: 869 KiB were measured, for a list on tables at the limits. That has room on a thread with Rust's usual 2 MiB, and not on a much smaller one.
+//! of the stack: 622 KiB were measured, for a list on tables at the limits. That has room on a thread with Rust's usual 2 MiB, and not on a much smaller one.
 //!
 //! # Levels
 //!
