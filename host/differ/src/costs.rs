@@ -32,13 +32,13 @@ const CALLS: [(&str, &str); 17] = [
     ("copy_file", "a search in data files, and if none is found one in delete files, both of them twice; `catalog_find_file` once"),
     (
         "list_files",
-        "a search each in snapshots and tables; 2 passes over data files (count, list); 1 over delete files, with a search in data files for \
-         each live one",
+        "a search each in snapshots and tables; 2 passes over data files (count, list); 1 over delete files, with a search in data files, from \
+         a hint, for each live one",
     ),
     (
         "list_filtered_files",
-        "the same, and 2 searches in columns; for each live file of the table, in both passes, 2 searches in statistics and its own records, \
-         at most 16",
+        "the same, and 2 searches in columns; for each live file of the table, in both passes, a search in statistics, from a hint, and its own \
+         records, at most 16",
     ),
     (
         "list_rows",
