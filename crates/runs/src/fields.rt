@@ -52,6 +52,18 @@ pub fn fields_below(w: &[u64], size: usize, at: usize, n: usize, limit: u64) -> 
     true
 }
 
+// The same, where they ascend: the last is the highest.
+pub fn ascending_below(w: &[u64], size: usize, at: usize, n: usize, limit: u64) -> bool
+    requires { ⌜ (size * n ≤ length (now w)) × (at < size) × (chained ltb (fields size at (now w) n) ≡ true) ⌝ }
+    ensures { λ r. ⌜ r ≡ all (λ x. ltb x limit) (fields size at (now (w .entry)) n) ⌝ }
+{
+    if n == 0 {
+        return true;
+    }
+    let x = field_at(w, size, at, n - 1);
+    x < limit
+}
+
 // Whether they are all from `low` to `high`.
 pub fn fields_between(w: &[u64], size: usize, at: usize, n: usize, low: u64, high: u64) -> bool
     requires { ⌜ (size * n ≤ length (now w)) × (at < size) ⌝ }
@@ -99,11 +111,16 @@ pub fn count_below(w: &[u64], size: usize, at: usize, n: usize, x: u64, near: us
     requires { ⌜ (size * n ≤ length (now w)) × (at < size) × (chained leb (fields size at (now w) n) ≡ true) ⌝ }
     ensures { λ r. ⌜ r ≡ count (λ y. ltb y x) (fields size at (now (w .entry)) n) ⌝ }
 {
-    if (0 < near) & (near < n) {
-        let y = field_at(w, size, at, near - 1);
+    if near < n {
         let z = field_at(w, size, at, near);
-        if (y < x) & (x <= z) {
-            return near;
+        if x <= z {
+            if near == 0 {
+                return 0;
+            }
+            let y = field_at(w, size, at, near - 1);
+            if y < x {
+                return near;
+            }
         }
     }
     count_below_from(w, size, at, n, x, near)
