@@ -1,47 +1,70 @@
 -- The words of names: bytes are digits, so that equal words have equal bytes.
-use Prim.Native.Nat.{ℕ, _+_, _*_, _^_, _≤_, _<_}
+use Prim.Native.Nat.{ℕ, zero, suc, _+_, _*_, _^_, _≤_, _<_}
 use mathlib.Core.Path.{_≡_, refl, sym, ap, ap₂, _∙_}
 use mathlib.Core.Bool.{Bool, true, not, _&&_, and-false}
 use mathlib.Core.List.{List, [], _∷_, _++_}
 use native.Mathlib.Omega.{arith}
-use native.Mathlib.Numerals.{add-one}
-use native.Mathlib.Nat.{add-assoc, pow-succ', pow-le-pow-right}
+use native.Mathlib.Nat.{add-zero}
 use lib.Dec.{ltb, eqb}
 use lib.ListN.{length, getD, take, drop, length-take, length-drop, take-append-drop}
-use lib.Seq.{getD-take, getD-drop, take-add, take-all}
+use lib.Seq.{take-take, drop-drop, take-add, take-all}
 use borrow.Author.Tests.{eqb-true, eq-eqb, ne-eqb, ltb-true, lt-ltb, ltb-false, lt-leb}
 use Rattle.lists.specs.Lists.{range, all, agree}
 use Rattle.lists.specs.Runs.{wordBytes}
 use Rattle.lists.proofs.Tests.{if, both, and, clash, same-test}
-use Rattle.lists.proofs.Windows.{part-step}
+use Rattle.lists.proofs.Windows.{part-step, part-end}
 use Rattle.lists.proofs.Selections.{all-append, all-weaken}
 use Rattle.layout.specs.Names.{nameSize, nameAt, isNameByte, isZero, namedThenZero, isName, sameName}
-use Rattle.names.specs.NameWords.{byteCount, digits, nameWordCount, nameWord, nameWords}
+use Rattle.names.specs.NameWords.{byteCount, halfBytes, halfCount, halfAt, digits, nameWordCount, nameWord, nameWords}
 
--- a digit more
-pub digits-next : (word : ℕ) {b : ℕ} {bs cs : List ℕ} → bs ≡ b ∷ cs → digits word bs ≡ digits (byteCount * word + b) cs
+-- bytes behind others
+digits-append : (word : ℕ) (xs ys : List ℕ) → digits word (xs ++ ys) ≡ digits (digits word xs) ys
 unfolding digits
-digits-next word e = rw e refl
+digits-append word [] ys = refl
+digits-append word (x ∷ xs) ys = digits-append (byteCount * word + x) xs ys
 
-pub digits-end : (word : ℕ) {bs : List ℕ} → bs ≡ [] → digits word bs ≡ word
-unfolding digits
-digits-end word e = rw e refl
+-- half a word: its bytes one after another, and their sum as digits
+module _ (run : List ℕ) (a : ℕ) (fits : a + halfBytes ≤ length run) where
+  half-step : (k : ℕ) → k < halfBytes → drop k (halfAt run a) ≡ getD run (a + k) 0 ∷ drop (k + 1) (halfAt run a)
+  half-step k h = part-step 0 run a halfBytes k fits h
 
-pub digits-below : (word b j : ℕ) → word < byteCount ^ j → b < byteCount → byteCount * word + b < byteCount ^ (j + 1)
-digits-below word b j h k = rw (add-one j, pow-succ' byteCount j) (omega arith)
+  half-bytes : halfAt run a ≡ getD run a 0 ∷ getD run (a + 1) 0 ∷ getD run (a + 2) 0 ∷ getD run (a + 3) 0 ∷ []
+  half-bytes =
+      half-step 0 (omega arith) ∙ ap₂ _∷_ (ap (λ k. getD run k 0) (add-zero a))
+      (half-step 1 (omega arith) ∙ ap₂ _∷_ refl
+      (half-step 2 (omega arith) ∙ ap₂ _∷_ refl
+      (half-step 3 (omega arith) ∙ ap₂ _∷_ refl (part-end run a halfBytes halfBytes (omega arith)))))
 
--- so many digits fit a word
-pub digits-fit : (n j : ℕ) → n < byteCount ^ (j + 1) → j < wordBytes → n < 2 ^ 64
-digits-fit n j h k = let p : byteCount ^ (j + 1) ≤ byteCount ^ wordBytes = pow-le-pow-right {n = byteCount} (omega arith) {i = j + 1} {j = wordBytes} (omega arith) in omega arith
+  pub half-sum : (word : ℕ) {p q r s : ℕ} → p ≡ getD run a 0 → q ≡ getD run (a + 1) 0 → r ≡ getD run (a + 2) 0 → s ≡ getD run (a + 3) 0
+      → digits word (halfAt run a) ≡ halfCount * word + (byteCount ^ 3 * p + byteCount ^ 2 * q + byteCount * r + s)
+  unfolding digits
+  half-sum word d e f g = rw (half-bytes, ← d, ← e, ← f, ← g) (omega arith)
 
--- the bytes of a word, one after another
-pub word-step : (run : List ℕ) (i k j : ℕ) {b : ℕ} → nameSize * i + nameSize ≤ length run → k < nameWordCount → j < wordBytes → b ≡ getD run (nameSize * i + wordBytes * k + j) 0
-    → drop j (take wordBytes (drop (wordBytes * k) (nameAt run i))) ≡ b ∷ drop (j + 1) (take wordBytes (drop (wordBytes * k) (nameAt run i)))
-word-step run i k j f h l e =
-    part-step 0 (nameAt run i) (wordBytes * k) wordBytes j (simp (length-take, length-drop) (omega arith)) l
-    ∙ ap (λ b. b ∷ drop (j + 1) (take wordBytes (drop (wordBytes * k) (nameAt run i))))
-    (getD-take nameSize (drop (nameSize * i) run) (wordBytes * k + j) 0 (omega arith) ∙ getD-drop (nameSize * i) run (wordBytes * k + j) 0
-    ∙ ap (λ n. getD run n 0) (sym (add-assoc (nameSize * i) (wordBytes * k) j)) ∙ sym e)
+  half-behind : (word : ℕ) → digits word (halfAt run a) ≡ halfCount * word + digits 0 (halfAt run a)
+  half-behind word = omega (arith, half-sum word refl refl refl refl, half-sum 0 refl refl refl refl)
+
+-- a part of a list's beginning is a part of the list
+part-inside : (a n m : ℕ) (xs : List ℕ) → a + n ≤ m → take n (drop a (take m xs)) ≡ take n (drop a xs)
+part-inside zero n m xs h = take-take n m xs (omega arith)
+part-inside (suc a) n zero xs h = absurd (omega arith)
+part-inside (suc a) n (suc m) [] h = refl
+part-inside (suc a) n (suc m) (x ∷ xs) h = part-inside a n m xs (omega arith)
+
+-- a word of a name is two halves, the first of which counts in the numbers of the second
+module _ (run : List ℕ) (i k : ℕ) (fits : nameSize * i + nameSize ≤ length run) (h : k < nameWordCount) where
+  abbrev start : ℕ
+  start = nameSize * i + wordBytes * k
+
+  word-halves : take wordBytes (drop (wordBytes * k) (nameAt run i)) ≡ halfAt run start ++ halfAt run (start + halfBytes)
+  word-halves =
+      part-inside (wordBytes * k) wordBytes nameSize (drop (nameSize * i) run) (omega arith)
+      ∙ (ap (take wordBytes) (drop-drop (wordBytes * k) (nameSize * i) run) ∙ (take-add halfBytes halfBytes (drop start run) ∙ rw (drop-drop halfBytes start run) refl))
+
+  pub word-sum : nameWord (nameAt run i) k ≡ halfCount * digits 0 (halfAt run start) + digits 0 (halfAt run (start + halfBytes))
+  unfolding nameWord
+  word-sum =
+      ap (digits 0) word-halves
+      ∙ (digits-append 0 (halfAt run start) (halfAt run (start + halfBytes)) ∙ half-behind run (start + halfBytes) (omega arith) (digits 0 (halfAt run start)))
 
 -- lists that agree
 same-bytes : (a b : List ℕ) → agree eqb a b ≡ true → a ≡ b

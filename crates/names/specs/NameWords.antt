@@ -1,5 +1,5 @@
 -- A name's bytes as words, which compare as the bytes do.
-use Prim.Native.Nat.{ℕ, _+_, _*_}
+use Prim.Native.Nat.{ℕ, _+_, _*_, _^_}
 use mathlib.Core.List.{List, [], _∷_, map}
 use lib.ListN.{take, drop}
 use Rattle.lists.specs.Lists.{range}
@@ -8,6 +8,17 @@ use Rattle.lists.specs.Runs.{wordBytes}
 -- a byte is one of so many numbers
 abbrev pub byteCount : ℕ
 byteCount = 256
+
+-- half a word has so many bytes, which are one of so many numbers
+abbrev pub halfBytes : ℕ
+halfBytes = 4
+
+abbrev pub halfCount : ℕ
+halfCount = byteCount ^ halfBytes
+
+-- the half that begins at the byte a
+abbrev pub halfAt : List ℕ → ℕ → List ℕ
+halfAt run a = take halfBytes (drop a run)
 
 -- bytes as the digits of a number, the highest first, behind those of `word`
 unfoldable pub digits : ℕ → List ℕ → ℕ

@@ -4,13 +4,20 @@ ghost use Prim.Native.Nat.{_+_, _*_, _≤_, _<_};
 ghost use lib.ListN.{length, getD};
 ghost use Rattle.lists.specs.Runs.{overwrite};
 ghost use Rattle.layout.specs.Names.{nameSize, nameAt, isNameByte, isName, isNameArgument, padded, sameName};
-ghost use Rattle.names.specs.NameWords.{byteCount, nameWordCount, nameWord};
+ghost use Rattle.names.specs.NameWords.{byteCount, halfBytes, halfCount, halfAt, digits, nameWordCount, nameWord};
 use layout::number::NAME_SIZE;
 
 // A word holds so many bytes, and a byte one of so many numbers.
 const WORD_BYTES: usize = 8;
 
 const BYTE_COUNT: u64 = 256;
+
+// Two bytes are one of so many numbers, three, and the four of half a word.
+const PAIR_COUNT: u64 = BYTE_COUNT * BYTE_COUNT;
+
+const TRIPLE_COUNT: u64 = BYTE_COUNT * PAIR_COUNT;
+
+const HALF_COUNT: u64 = BYTE_COUNT * TRIPLE_COUNT;
 
 // An ASCII letter, digit or underscore.
 pub fn is_name_byte(b: u8) -> bool
@@ -45,19 +52,26 @@ fn wide(b: u8) -> u64
     b as u64
 }
 
+// Four bytes from a on as a number, the highest first, in a sum that compiles to one load.
+fn four_bytes(names: &[u8], a: usize) -> u64
+    requires { ⌜ a + halfBytes ≤ length (now names) ⌝ }
+    ensures { λ r. ⌜ (r ≡ digits 0 (halfAt (now (names .entry)) a)) × (r < halfCount) ⌝ }
+{
+    TRIPLE_COUNT * wide(names[a])
+        + PAIR_COUNT * wide(names[a + 1])
+        + BYTE_COUNT * wide(names[a + 2])
+        + wide(names[a + 3])
+}
+
 // Eight bytes of the place i, from its byte 8k on, as one word: the words of two names compare as their bytes do.
 pub fn name_word(names: &[u8], i: usize, k: usize) -> u64
     requires { ⌜ (nameSize * i + nameSize ≤ length (now names)) × (k < nameWordCount) ⌝ }
     ensures { λ r. ⌜ r ≡ nameWord (nameAt (now (names .entry)) i) k ⌝ }
 {
     let a = NAME_SIZE * i + WORD_BYTES * k;
-    let mut word: u64 = 0;
-    let mut j: usize = 0;
-    while j < WORD_BYTES {
-        word = BYTE_COUNT * word + wide(names[a + j]);
-        j += 1;
-    }
-    word
+    let high = four_bytes(names, a);
+    let low = four_bytes(names, a + WORD_BYTES / 2);
+    HALF_COUNT * high + low
 }
 
 // Whether a name is well formed as an argument: 1 to 32 name bytes.
