@@ -1,22 +1,33 @@
--- `data_files_in_range` meets its contract: a data file is in range where each of its fields is.
+-- `data_files_in_range` meets its contract: the loop tests each data file.
 use borrow.Author.Needs.{needs}
-use mathlib.Core.Path.{sym, _∙_}
-use Rattle.lists.specs.Lists.{range}
-use Rattle.lists.specs.Runs.{field}
-use Rattle.lists.proofs.Selections.{all-map}
-use Rattle.ducklake.specs.Soundness.{dataFileInRange, isRecordCount}
-use Rattle.soundness_fields.proofs.RecordTests.{one-field, and-field}
+use Prim.Native.Nat.{_-_}
+use mathlib.Core.Path.{_≡_, sym, _∙_}
+use Rattle.lists.specs.Lists.{all}
+use Rattle.lists.specs.Runs.{from}
+use Rattle.lists.proofs.Loops.{all-start, all-passed, all-failed, all-end}
+use Rattle.layout.specs.Words.{dataFileAt, dataFilesIn}
+use Rattle.ducklake.specs.Soundness.{dataFileInRange}
 use Rattle.soundness_fields.proofs.ranges.data_files_in_range.Statement.{statement}
 use Rattle.soundness_fields.proofs.ranges.data_files_in_range.Tie as tie
 
-returns : tie.Need-returns
-unfolding field dataFileInRange isRecordCount
+abbrev Inv-loop : tie.InvT-loop
+Inv-loop run n i₀ i = all dataFileInRange (dataFilesIn run n) ≡ all dataFileInRange (from (dataFileAt run) i n)
+
+abbrev μ-loop : tie.MeasureT-loop
+μ-loop run n i₀ i = n - i
+
+returns : tie.Need-returns Inv-loop μ-loop
 returns c =
-    and-field _ _ _ _ (and-field _ _ _ _ (and-field _ _ _ _ (one-field _ _ _ (c .before .before .before .fields-in-limit .ensures))
-    (c .before .before .fields-in-limit2 .ensures))
-    (c .before .fields-in-limit3 .ensures))
-    (c .fields-between .ensures)
-    ∙ sym (all-map _ _ (range 0 _))
+    let s = c .before .before in
+    sym (s .before .loop .inv ∙ all-failed _ _ _ _ (s .loop-test .taken) (c .before .data-file-in-range .ensures) (c .if1 .taken))
+
+loop-again : tie.Need-loop-again Inv-loop μ-loop
+loop-again c =
+    let s = c .before .before in
+    s .before .loop .inv ∙ all-passed _ _ _ _ (s .loop-test .taken) (c .before .data-file-in-range .ensures) (c .if1 .left)
 
 pub data-files-in-range-spec : {M : Type 1} → statement M
-data-files-in-range-spec = tie.close (tie.spec (λ c κs. search needs) (λ c κs. search needs) (λ c κs. search needs) (λ c κs. search needs) returns)
+data-files-in-range-spec =
+    tie.close
+    (tie.spec Inv-loop μ-loop (λ c. all-start _ _ _) (λ c κs. search needs) returns (λ c. search needs) (λ c. search needs) loop-again
+    (λ c. sym (c .before .loop .inv ∙ all-end _ _ _ _ (c .loop-test .left))))
