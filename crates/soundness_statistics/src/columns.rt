@@ -11,21 +11,26 @@ ghost use Rattle.lookup.specs.Order.{TablesById, ColumnsByTable};
 ghost use Rattle.soundness_statistics.specs.Counted.{columnsCounted};
 use layout::number::COLUMN_LIMIT;
 use layout::outcome::Counts;
-use lookup::block::columns_near;
+use lookup::block::columns_between;
 use records::table::table_id;
+use std::num::wrapping_add_usize;
+use std::num::wrapping_sub_usize;
 
 // Whether each table has 1 to 16 columns on record. Both ascend by table, so those of the next table most often follow.
+// They are sought where they would stand if they were as many as those of this one.
 fn columns_counted(tables: &[u64], n: usize, columns: &[u64], m: usize) -> bool
     requires { ⌜ (tableSize * n ≤ length (now tables)) × ColumnsByTable (now columns) m ⌝ }
     ensures { λ r. ⌜ ((t c : List ℕ) → r ≡ all (columnsCounted (columnsIn (now (columns .entry)) c m)) (tablesIn (now (tables .entry)) t n)) ⌝ }
 {
     let mut i: usize = 0;
     let mut near: usize = 0;
+    let mut last: usize = 0;
     while i < n {
         let table = table_id(tables, i);
-        let own = columns_near(columns, m, table, near);
+        let own = columns_between(columns, m, table, near, last);
         near = own.end;
         let k = own.end - own.start;
+        last = wrapping_add_usize(near, wrapping_sub_usize(k, 1));
         if !((1 <= k) & (k <= COLUMN_LIMIT)) {
             return false;
         }
