@@ -1,10 +1,10 @@
 // Column types, and words as signed values.
 ghost use mathlib.Core.Path.{_≡_};
-ghost use lib.Dec.{eqb};
-ghost use Rattle.lists.specs.Lists.{place};
-ghost use Rattle.layout.specs.Types.{signed, types, isType, inType, boundAtMost};
+ghost use mathlib.Core.Bool.{_&&_};
+ghost use lib.IntN.{ℤ};
+ghost use lib.Signed.{leZ};
+ghost use Rattle.layout.specs.Types.{signed, isType, inType, boundAtMost};
 use layout::value::TypeRange;
-use lists::Found;
 
 // How many types there are.
 const TYPE_COUNT: usize = 8;
@@ -53,39 +53,42 @@ const TYPES: [TypeRange; TYPE_COUNT] = [
     },
 ];
 
-// Where the type of that code stands in the table: the codes count up from 1, so it is looked for where its code says.
-fn find_type(code: u64) -> Found
-    ensures { λ r. ⌜ r ≡ place (λ t. eqb (t .code) code) 0 types ⌝ }
+// The type of that code, its place in the table told by an arm for each: a place that is known when this is compiled costs no copy of the table. A code of no
+// type has no value.
+fn type_of(code: u64) -> TypeRange
+    ensures { λ r. ⌜ (leZ (r .low) (r .high) ≡ isType code) × ((v : ℤ) → (leZ (r .low) v && leZ v (r .high)) ≡ inType code v) ⌝ }
 {
-    if (0 < code) & (code <= TYPE_COUNT as u64) {
-        return Found::At((code - 1) as usize);
+    match code {
+        1 => TYPES[0],
+        2 => TYPES[1],
+        3 => TYPES[2],
+        4 => TYPES[3],
+        5 => TYPES[4],
+        6 => TYPES[5],
+        7 => TYPES[6],
+        8 => TYPES[7],
+        _ => TypeRange {
+            code: 0,
+            low: 1,
+            high: 0,
+        },
     }
-    Found::Nothing
 }
 
 // Whether there is a type of that code.
 pub fn is_type(code: u64) -> bool
     ensures { λ r. ⌜ r ≡ isType code ⌝ }
 {
-    let found = find_type(code);
-    match found {
-        Found::At(_) => true,
-        Found::Nothing => false,
-    }
+    let t = type_of(code);
+    t.low <= t.high
 }
 
 // Whether the value is in the range of the type of that code.
 pub fn in_type(code: u64, v: i64) -> bool
     ensures { λ r. ⌜ r ≡ inType code v ⌝ }
 {
-    let found = find_type(code);
-    match found {
-        Found::At(i) => {
-            let t = TYPES[i];
-            (t.low <= v) & (v <= t.high)
-        }
-        Found::Nothing => false,
-    }
+    let t = type_of(code);
+    (t.low <= v) & (v <= t.high)
 }
 
 // The first word that stands for a negative number, and that number.
