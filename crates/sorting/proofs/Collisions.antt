@@ -4,21 +4,23 @@ use mathlib.Core.Path.{_≡_, refl, sym, ap, ap₂, _∙_}
 use mathlib.Core.List.{List, [], _∷_, _++_, map, append-assoc, append-nil}
 use mathlib.Core.Bool.{Bool, true, false, not, _&&_}
 use native.Mathlib.Omega.{arith}
-use native.Mathlib.Nat.{mul-le-mul-left, mul-le-mul-right}
+use native.Mathlib.Nat.{add-zero, mul-le-mul-left, mul-le-mul-right}
 use native.Mathlib.Numerals.{add-one}
 use lib.Dec.{ltb, eqb}
 use lib.ListN.{length, getD, take, drop, set, length-set, replicate, length-replicate, getD-replicate, drop-of-length-le, List·getD-eq-default}
 use lib.Seq.{take-suc, take-suc-set, drop-cons, take-set-le, drop-set-lt, getD-set-same, getD-set-other, take-all}
 use borrow.Author.Tests.{eqb-true, eqb-false, eq-eqb, ltb-true, ltb-false, lt-ltb, le-ltb}
-use Rattle.lists.specs.Lists.{all, pairwise, count, filter}
-use Rattle.lists.specs.Runs.{from}
+use Rattle.lists.specs.Lists.{range, all, pairwise, count, filter}
+use Rattle.lists.specs.Runs.{from, field, overwrite}
 use Rattle.lists.proofs.Tests.{if, clash, same-test}
 use Rattle.lists.proofs.Members.{all-in, in-all, in-filter, in-filter-of, in-getD}
 use Rattle.lists.proofs.Counts.{count-append, count-pos, count-map}
-use Rattle.lists.proofs.Loops.{from-step, from-end}
+use Rattle.lists.proofs.Loops.{from-step, from-end, from-all}
+use Rattle.lists.proofs.Runs.{overwrite-none}
+use Rattle.lists.proofs.Windows.{overwrite-next}
 use Rattle.lists.proofs.Selections.{map-append, all-map}
 use Rattle.sorting.specs.Keys.{sameKey, Keyed}
-use Rattle.sorting.specs.Colliding.{samePrefix, half, mixed, digest, hashLimit, hashed, hashAt, Counted, colliding, Hashes, Kept, Thinned}
+use Rattle.sorting.specs.Colliding.{samePrefix, half, mixed, digest, hashLimit, hashed, hashAt, pairHash, Counted, colliding, Hashes, Kept, Thinned}
 use Rattle.sorting.proofs.KeyOrder.{same-words}
 
 -- ---- hashes
@@ -38,6 +40,12 @@ digest-next second h f k used l p e = rw (from-step f k used l, e, p) refl
 pub digest-end : (second : Bool) (h : ℕ) (f : ℕ → ℕ) (k used : ℕ) → used ≤ k → digest second h (from f k used) ≡ h
 unfolding digest
 digest-end second h f k used l = rw (from-end f k used l) refl
+
+-- of two words
+pub digest-pair : (size a b : ℕ) (run : List ℕ) (i : ℕ) {x y g h r : ℕ} → x ≡ field size a run i → y ≡ field size b run i → g ≡ (mixed false 0 + x) % 2 ^ 64
+    → h ≡ (mixed false g + y) % 2 ^ 64 → r ≡ hashed false h → r ≡ pairHash size a b run i
+unfolding digest
+digest-pair size a b run i p q d e f = rw (f, e, d, p, q) refl
 
 -- what is f of something is below n where f is, and so hashes are below their limit
 pub all-below : (f : ℕ → ℕ) (n : ℕ) → ((x : ℕ) → f x < n) → (xs : List ℕ) {ys : List ℕ} → ys ≡ map f xs → all (λ h. ltb h n) ys ≡ true
@@ -70,6 +78,23 @@ mapped-next {xs = xs} {ys} {i} t l m e =
 pub mapped-end : {f : ℕ → ℕ} {xs ys : List ℕ} {i : ℕ} → Mapped f xs ys i → length ys ≡ length xs → length xs ≤ i → ys ≡ map f xs
 mapped-end {xs = xs} {ys} {i} t m l = rw (take-all i ys (omega arith), take-all i xs l) at (t .written)
 
+-- a loop that writes f of each place below n from the place a on: what the run comes to from the turn i on
+module _ (f : ℕ → ℕ) (a n : ℕ) where
+  pub placed : List ℕ → ℕ → List ℕ
+  placed w i = overwrite w (a + i) (from f i n)
+
+  pub placed-start : (w : List ℕ) → overwrite w a (map f (range 0 n)) ≡ placed w 0
+  unfolding placed
+  placed-start w = rw (add-zero, ← from-all f n) refl
+
+  pub placed-next : (w : List ℕ) (i v : ℕ) → i < n → a + n ≤ length w → v ≡ f i → placed w i ≡ placed (set w (a + i) v) (i + 1)
+  unfolding placed
+  placed-next w i v h l e = overwrite-next w a i v (omega arith) (rw e (from-step f i n h))
+
+  pub placed-end : (w : List ℕ) (i : ℕ) → n ≤ i → placed w i ≡ w
+  unfolding placed
+  placed-end w i h = rw (from-end f i n h) (overwrite-none w (a + i))
+
 -- what is still to be looked at is as it was
 module _ (old w : List ℕ) (i : ℕ) (d : drop i w ≡ drop i old) (e : length w ≡ length old) (l : i < length old) where
   pub head-kept : getD w i 0 ≡ getD old i 0
@@ -87,20 +112,26 @@ counted-none n = record {
       (λ b. List·getD-eq-default (replicate n 0) 0 (rw length-replicate (ltb-false h n b)));
 }
 
-pub counted-most : {hashes counts : List ℕ} → Counted hashes counts → (h : ℕ) → getD counts h 0 ≤ 2
-counted-most p h = omega (arith, p .counted h)
+-- a hash more: one that occurs twice already counts no further
+module _ (hashes counts : List ℕ) (i : ℕ) (l : i < length hashes) (p : Counted (take i hashes) counts) where
+  pub counted-next : {c : ℕ} → getD hashes i 0 < length counts → c ≡ getD counts (getD hashes i 0) 0 → c < 2
+      → Counted (take (i + 1) hashes) (set counts (getD hashes i 0) (c + 1))
+  unfolding count
+  counted-next {c} g e k = record { counted = λ h. rw (add-one i, take-suc hashes i 0 l, count-append) (of h) }
+    where
+      of : (h : ℕ) → getD (set counts (getD hashes i 0) (c + 1)) h 0 ≡ min 2 (count (eqb h) (take i hashes) + count (eqb h) (getD hashes i 0 ∷ []))
+      of h = if (eqb h (getD hashes i 0))
+          (λ b. let q = eqb-true h (getD hashes i 0) b in rw (b, q, getD-set-same counts (getD hashes i 0) (c + 1) 0 g) (omega (arith, e, k, rw q at (p .counted h))))
+          (λ b. rw (b, getD-set-other counts (getD hashes i 0) h (c + 1) 0 (eqb-false h (getD hashes i 0) b)) (omega (arith, p .counted h)))
 
-pub counted-next : (hashes counts : List ℕ) (i : ℕ) {c : ℕ} → i < length hashes → getD hashes i 0 < length counts
-    → c ≡ min 2 (getD counts (getD hashes i 0) 0 + 1) → Counted (take i hashes) counts → Counted (take (i + 1) hashes) (set counts (getD hashes i 0) c)
-unfolding count
-counted-next hashes counts i {c} l g e p = record {
-  counted = λ h. rw (add-one, take-suc hashes i 0 l, count-append) (of h);
-}
-  where
-    of : (h : ℕ) → getD (set counts (getD hashes i 0) c) h 0 ≡ min 2 (count (eqb h) (take i hashes) + count (eqb h) (getD hashes i 0 ∷ []))
-    of h = if (eqb h (getD hashes i 0))
-        (λ b. let q = eqb-true h (getD hashes i 0) b in rw (b, q, getD-set-same counts (getD hashes i 0) c 0 g) (omega (arith, e, rw q at (p .counted h))))
-        (λ b. rw (b, getD-set-other counts (getD hashes i 0) h c 0 (eqb-false h (getD hashes i 0) b)) (omega (arith, p .counted h)))
+  pub counted-full : 2 ≤ getD counts (getD hashes i 0) 0 → Counted (take (i + 1) hashes) counts
+  unfolding count
+  counted-full k = record { counted = λ h. rw (add-one i, take-suc hashes i 0 l, count-append) (of h) }
+    where
+      of : (h : ℕ) → getD counts h 0 ≡ min 2 (count (eqb h) (take i hashes) + count (eqb h) (getD hashes i 0 ∷ []))
+      of h = if (eqb h (getD hashes i 0))
+          (λ b. let q = eqb-true h (getD hashes i 0) b in rw (b, q) (omega (arith, k, rw q at (p .counted h))))
+          (λ b. rw b (omega (arith, p .counted h)))
 
 -- ---- places moved to the front
 

@@ -45,6 +45,13 @@ hashed second h = mixed second h / hashLimit % hashLimit
 abbrev pub hashAt : Bool → ℕ → ℕ → List ℕ → ℕ → ℕ
 hashAt second used size run i = hashed second (digest second 0 (prefixAt used size run i))
 
+-- of a record where it stands: the hash of one word, and that of two
+abbrev pub fieldHash : ℕ → ℕ → List ℕ → ℕ → ℕ
+fieldHash size at run i = field size at run i % hashLimit
+
+abbrev pub pairHash : ℕ → ℕ → ℕ → List ℕ → ℕ → ℕ
+pairHash size a b run i = hashed false (digest false 0 (field size a run i ∷ field size b run i ∷ []))
+
 -- how often each hash occurs, up to twice
 pub record Counted (hashes counts : List ℕ) : Type 0 where
   pub counted : (h : ℕ) → getD counts h 0 ≡ min 2 (count (eqb h) hashes)

@@ -1,12 +1,13 @@
 ghost use mathlib.Core.Path.{_≡_};
 ghost use mathlib.Core.List.{[], map};
 ghost use mathlib.Core.Bool.{true};
-ghost use Prim.Native.Nat.{ℕ, _+_, _*_, _%_, _^_, _≤_, _<_, min};
+ghost use Prim.Native.Nat.{ℕ, _+_, _*_, _%_, _^_, _≤_, _<_};
 ghost use lib.Dec.{ltb};
 ghost use lib.ListN.{length, take};
-ghost use Rattle.lists.specs.Lists.{all, filter};
+ghost use Rattle.lists.specs.Lists.{range, all, filter};
+ghost use Rattle.lists.specs.Runs.{overwrite};
 ghost use Rattle.sorting.specs.Keys.{Keyed};
-ghost use Rattle.sorting.specs.Colliding.{mixed, hashLimit, someHashes, hashed, hashAt, Counted, colliding, Hashes, Kept, Thinned};
+ghost use Rattle.sorting.specs.Colliding.{mixed, hashLimit, someHashes, hashed, hashAt, fieldHash, pairHash, Counted, colliding, Hashes, Kept, Thinned};
 use runs::fields::field_at;
 use std::num::wrapping_add_u64;
 
@@ -89,12 +90,40 @@ fn hash_places(
     }
 }
 
-// One more, up to two.
-fn one_more(c: u8) -> u8
-    requires { ⌜ c ≤ 2 ⌝ }
-    ensures { λ r. ⌜ r ≡ min 2 (c + 1) ⌝ }
+// The hashes of records where they stand, from the place `from` on. Of the word `at` of n records: its last digits, which tell ids apart that count up.
+pub fn hash_fields(w: &[u64], size: usize, at: usize, n: usize, hashes: &mut [usize], from: usize)
+    requires { ⌜ (size * n ≤ length (now w)) × (at < size) × (from + n ≤ length (now hashes)) ⌝ }
+    ensures { λ _. ⌜ now (hashes .exit) ≡ overwrite (now (hashes .entry)) from (map (fieldHash size at (now (w .entry))) (range 0 n)) ⌝ }
 {
-    c + 1 - c / 2
+    let mut i: usize = 0;
+    while i < n {
+        let x = field_at(w, size, at, i);
+        hashes[from + i] = (x % (HASH_LIMIT as u64)) as usize;
+        i += 1;
+    }
+}
+
+// Of two words of n records.
+pub fn hash_pairs(
+    w: &[u64],
+    size: usize,
+    a: usize,
+    b: usize,
+    n: usize,
+    hashes: &mut [usize],
+    from: usize,
+)
+    requires { ⌜ (size * n ≤ length (now w)) × (a < size) × (b < size) × (from + n ≤ length (now hashes)) ⌝ }
+    ensures { λ _. ⌜ now (hashes .exit) ≡ overwrite (now (hashes .entry)) from (map (pairHash size a b (now (w .entry))) (range 0 n)) ⌝ }
+{
+    let mut i: usize = 0;
+    while i < n {
+        let x = field_at(w, size, a, i);
+        let y = field_at(w, size, b, i);
+        let h = absorb(absorb(0, x, false), y, false);
+        hashes[from + i] = hash(h, false);
+        i += 1;
+    }
 }
 
 // How often each hash occurs, up to twice.
@@ -106,8 +135,11 @@ fn count_hashes(hashes: &[usize], counts: &mut [u8])
     let mut i: usize = 0;
     while i < n {
         let h = hashes[i];
-        counts[h] = one_more(counts[h]);
+        let c = counts[h];
         i += 1;
+        if c < 2 {
+            counts[h] = c + 1;
+        }
     }
 }
 

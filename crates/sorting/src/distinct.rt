@@ -1,12 +1,10 @@
 ghost use mathlib.Core.Path.{_≡_};
 ghost use mathlib.Core.Bool.{not};
-ghost use Prim.Native.Nat.{_*_, _≤_};
 ghost use lib.ListN.{length};
-ghost use Rattle.lists.specs.Lists.{range, pairwise, chained};
+ghost use Rattle.lists.specs.Lists.{pairwise, chained};
 ghost use Rattle.sorting.specs.Keys.{sameKey, Keyed};
 use crate::colliding::thin;
 use crate::keys::same_key;
-use crate::sort::number;
 use crate::sort::sort;
 
 fn neighbours_differ(keys: &[u64], size: usize, w: &[usize]) -> bool
@@ -35,20 +33,10 @@ fn sorted_differ(keys: &[u64], size: usize, w: &mut [usize], v: &mut [usize]) ->
 }
 
 // Whether no two of the keys at those places are equal: those that are alone with their second hash need no sort. v is scratch.
-fn places_differ(keys: &[u64], size: usize, w: &mut [usize], v: &mut [usize]) -> bool
+pub fn places_differ(keys: &[u64], size: usize, w: &mut [usize], v: &mut [usize]) -> bool
     requires { ⌜ Keyed size (now keys) (now w) × (length (now v) ≡ length (now w)) ⌝ }
     ensures { λ r. ⌜ r ≡ pairwise (λ i j. not (sameKey size (now (keys .entry)) i j)) (now (w .entry)) ⌝ }
 {
     let r = thin(keys, size, size, true, w, v);
     sorted_differ(keys, size, &mut w[..r], &mut v[..r])
-}
-
-// Whether no two keys, as many as w is long, are equal: those that are alone with their first hash need no second. w and v are scratch.
-pub fn keys_differ(keys: &[u64], size: usize, w: &mut [usize], v: &mut [usize]) -> bool
-    requires { ⌜ (size * length (now w) ≤ length (now keys)) × (length (now v) ≡ length (now w)) ⌝ }
-    ensures { λ r. ⌜ r ≡ pairwise (λ i j. not (sameKey size (now (keys .entry)) i j)) (range 0 (length (now (w .entry)))) ⌝ }
-{
-    number(w);
-    let r = thin(keys, size, size, false, w, v);
-    places_differ(keys, size, &mut w[..r], &mut v[..r])
 }
