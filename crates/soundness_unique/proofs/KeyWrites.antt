@@ -3,20 +3,20 @@ use Prim.Native.Nat.{ℕ, _+_, _*_, _-_, _≤_, _<_}
 use mathlib.Core.Path.{_≡_, sym, ap, _∙_}
 use mathlib.Core.List.{List, _++_}
 use native.Mathlib.Omega.{arith}
-use native.Mathlib.Numerals.{add-one}
 use lib.Dec.{ltb, eqb}
 use lib.ListN.{length, getD, take, drop, List·getD-append}
-use lib.Seq.{take-suc, take-all, length-take-le, getD-take, getD-drop, getD-append-add}
+use lib.Seq.{take-all, length-take-le, getD-take, getD-drop, getD-append-add}
 use borrow.Author.Tests.{ltb-true, ltb-false, eqb-true, eqb-false}
 use Rattle.lists.specs.Lists.{range}
 use Rattle.lists.specs.Runs.{field, overwrite}
-use Rattle.lists.proofs.Tests.{if, either}
+use Rattle.lists.proofs.Tests.{if}
 use Rattle.lists.proofs.Layouts.{words-one-by-one}
-use Rattle.lists.proofs.Members.{In, in-append, in-cons, in-nil, in-range}
+use Rattle.lists.proofs.Members.{in-nil, in-range}
 use Rattle.lists.proofs.Runs.{overwrite-length, overwrite-past, record-fits}
 use Rattle.lists.proofs.Selections.{map-ext}
 use Rattle.sorting.specs.Keys.{keyAt, Keyed}
 use Rattle.sorting.proofs.KeyOrder.{keyed-at}
+use Rattle.sorting.proofs.Putting.{place-before}
 use Rattle.soundness_unique.specs.Naming.{KeysPut}
 
 module _ (size : ℕ) (keys : List ℕ) (p : ℕ) (ws : List ℕ) (l : length ws ≡ size) (h : size * p + size ≤ length keys) where
@@ -70,7 +70,7 @@ module _ (f : ℕ → List ℕ) (size : ℕ) where
     record {
       put = λ q m. rw e (if (eqb q p)
           (λ t. let u : q ≡ p = eqb-true q p t in rw u (written size keys p (f p) (g p) room))
-          (λ t. kept size keys p (f p) (g p) room q (eqb-false q p t) ∙ s .put q (older q (eqb-false q p t) m)));
+          (λ t. kept size keys p (f p) (g p) room q (eqb-false q p t) ∙ s .put q (place-before w i q l (eqb-false q p t) m)));
     },
   )
     where
@@ -79,9 +79,6 @@ module _ (f : ℕ → List ℕ) (size : ℕ) where
 
       room : size * p + size ≤ length keys
       room = omega (arith, keyed-at size old w i k l, o)
-
-      older : (q : ℕ) → (q ≡ p → ⊥) → In q (take (i + 1) w) → In q (take i w)
-      older q a m = either (in-append (take i w) (rw (add-one, take-suc w i 0 l) at m)) (λ n. n) (λ n. either (in-cons n) (λ u. absurd (a u)) (λ u. in-nil u))
 
   pub keys-end : (w keys : List ℕ) (i : ℕ) → length w ≤ i → KeysPut f size (take i w) keys → KeysPut f size w keys
   keys-end w keys i h s = rw (take-all i w h) at s

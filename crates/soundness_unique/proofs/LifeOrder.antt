@@ -7,20 +7,19 @@ use mathlib.Core.Logic.{_⊎_, inl, inr}
 use native.Mathlib.Omega.{arith}
 use lib.Dec.{leb, ltb, eqb}
 use lib.ListN.{length, getD}
-use borrow.Author.Tests.{ltb-true, lt-ltb, le-ltb, eqb-true, eq-eqb, le-leb, leb-true, leb-false, not-true}
-use Rattle.lists.specs.Lists.{range, pairwise, chained, all}
+use borrow.Author.Tests.{ltb-true, lt-ltb, le-ltb, eqb-true, le-leb, leb-true, leb-false, not-true}
+use Rattle.lists.specs.Lists.{pairwise, chained, all}
 use Rattle.lists.specs.Runs.{from, field}
 use Rattle.lists.proofs.Tests.{Reflects, if, either, both, and, clash, or-left, or-right, or-cases, reflects-it, reflects-implies}
 use Rattle.lists.proofs.Loops.{from-step, from-end, from-length}
-use Rattle.lists.proofs.Members.{in-all, in-range}
 use Rattle.lists.proofs.Places.{from-split}
 use Rattle.ducklake.specs.Soundness.{overlap}
-use Rattle.sorting.specs.Colliding.{prefixAt, samePrefix, Kept, Thinned}
+use Rattle.sorting.specs.Colliding.{prefixAt, samePrefix, Thinned}
 use Rattle.sorting.specs.Keys.{keyAt, atMost, sameWords, inOrder, Keyed}
 use Rattle.sorting.specs.Sorting.{Permutes}
 use Rattle.sorting.proofs.Groups.{groups-sorted}
 use Rattle.sorting.proofs.KeyOrder.{same-words, same-swap, most-between, order-trans}
-use Rattle.soundness_unique.specs.Naming.{keysApart, Living, keyedAt, LivesKeyed}
+use Rattle.soundness_unique.specs.Naming.{keysApart, Living, keyedAt}
 
 -- a word more behind lists of one length: the lists are in order, and where they are equal so are the words
 most-before : (xs ys : List ℕ) (x y : ℕ) → length xs ≡ length ys → atMost (xs ++ (x ∷ [])) (ys ++ (y ∷ [])) ≡ true → (atMost xs ys ≡ true) × (xs ≡ ys → x ≤ y)
@@ -107,15 +106,6 @@ pub lives-thinned : (used : ℕ) (keys : List ℕ) (size begin : ℕ) (run : Lis
     → pairwise (keysApart used keys size begin run) ys ≡ pairwise (keysApart used keys size begin run) xs
 lives-thinned used keys size begin run t = t .decided (keysApart used keys size begin run) (λ i j e. rw e refl)
 
--- records that all have keys
-pub keyed-all : (used : ℕ) (keys : List ℕ) (size begin : ℕ) (run : List ℕ) (n : ℕ) → LivesKeyed used keys size begin run n → all (keyedAt used keys size begin run n) (range 0 n) ≡ true
-keyed-all used keys size begin run n h =
-    in-all (keyedAt used keys size begin run n) (range 0 n)
-    (λ i m. let l : i < n = omega (arith, in-range 0 n m) in and (lt-ltb i n l) (eq-eqb (field (used + 1) used keys i) (field size begin run i) (h .begins i l)))
-
--- records and keys at the places that are left
+-- records at the places that are left
 pub thinned-lent : (size : ℕ) (run : List ℕ) {width used : ℕ} {keys a b : List ℕ} → Thinned width used keys a b → Keyed size run a → Keyed size run b
 thinned-lent size run t k = record { keyed = t .within (λ p. leb (size * p + size) (length run)) (k .keyed) }
-
-pub kept-lent : (size : ℕ) (run : List ℕ) {hash : ℕ → ℕ} {a b : List ℕ} → Kept hash a b → Keyed size run a → Keyed size run b
-kept-lent size run t k = record { keyed = t .within (λ p. leb (size * p + size) (length run)) (k .keyed) }

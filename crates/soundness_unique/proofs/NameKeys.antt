@@ -1,17 +1,16 @@
 -- The keys of names and of orders: equal but for the begin where group and name, or table and order, are equal.
-use Prim.Native.Nat.{ℕ, _+_, _*_, _%_, _^_, _≤_, _<_}
+use Prim.Native.Nat.{ℕ, _+_, _%_, _^_, _<_}
 use mathlib.Core.Path.{_≡_, refl, sym, ap, ap₂, _∙_}
 use mathlib.Core.Bool.{Bool, true, false, not, _&&_, _||_, and-true}
-use mathlib.Core.List.{List, [], _∷_, map}
-use native.Mathlib.Nat.{zero-add}
+use mathlib.Core.List.{List, [], _∷_}
 use native.Mathlib.Omega.{arith}
-use lib.Dec.{ltb, eqb}
-use lib.ListN.{length, getD, take, length-map}
-use borrow.Author.Tests.{ltb-true, lt-ltb, eqb-true, eq-eqb}
+use lib.Dec.{eqb}
+use lib.ListN.{length, getD, take}
+use borrow.Author.Tests.{ltb-true, eqb-true}
 use Rattle.lists.specs.Lists.{range, all, pairwise, agree}
 use Rattle.lists.specs.Runs.{field}
-use Rattle.lists.proofs.Tests.{if, both, and}
-use Rattle.lists.proofs.Members.{In, all-in, in-all, in-range}
+use Rattle.lists.proofs.Tests.{if, both}
+use Rattle.lists.proofs.Members.{In}
 use Rattle.lists.proofs.Places.{all-at}
 use Rattle.lists.proofs.Selections.{all-both, pairwise-ext, pairwise-map}
 use Rattle.layout.specs.declared.outcome.Counts.{Counts}
@@ -21,19 +20,14 @@ use Rattle.layout.specs.Words.{schemaAt, schemasIn, tableAt, tablesIn, columnAt
 use Rattle.ducklake.specs.Soundness.{overlap, schemasApart, tablesApart, columnsApart}
 use Rattle.names.specs.NameWords.{nameWord, nameWords}
 use Rattle.names.proofs.NameWords.{words-agree}
-use Rattle.sorting.specs.Colliding.{prefixAt, samePrefix, mixed, digest, hashLimit, hashed, Kept}
-use Rattle.sorting.specs.Keys.{Put}
-use Rattle.sorting.proofs.Collisions.{all-below}
-use Rattle.sorting.proofs.Groups.{within-range}
+use Rattle.sorting.specs.Colliding.{prefixAt, samePrefix, mixed, digest, hashed, Kept}
+use Rattle.sorting.specs.Keys.{Keyed, Put}
 use Rattle.sorting.proofs.KeyOrder.{same-words}
 use Rattle.soundness_unique.specs.declared.naming.Group.{Group}
 use Rattle.soundness_unique.specs.declared.naming.Group.the-variants.{All, With}
-use Rattle.soundness_unique.specs.Naming.{nameKeySize, nameKeyBegin, orderKeySize, orderKeyBegin, groupOf, isInside, nameWordsAt, nameHash, nameKey, KeysPut, liveTogether, keysApart, namesApartAt, ordersApartAt, Living, keyedAt, LivesKeyed, NamesLiving}
+use Rattle.soundness_unique.specs.Naming.{nameKeySize, nameKeyBegin, orderKeySize, orderKeyBegin, groupOf, isInside, nameWordsAt, nameHash, nameKey, orderHash, orderKey, KeysPut, liveTogether, keysApart, namesApartAt, ordersApartAt, Living, keyedAt, NamesLiving}
 use Rattle.soundness_unique.specs.Comparable.{Named}
-
--- a word of a key, from the first place on
-pub put-at : {f : ℕ → ℕ} {size at n : ℕ} {old new : List ℕ} → Put f size at 0 n old new → (i : ℕ) → i < n → field size at new i ≡ f i
-put-at {size = size} {at = at} {new = new} p i h = ap (field size at new) (sym (zero-add i)) ∙ p .put i h
+use Rattle.soundness_unique.proofs.LeftPlaces.{left-below, left-apart}
 
 -- the word of a group
 pub group-inside : {g : Group} {word size : ℕ} → g ≡ With word → isInside g size ≡ true → word < size
@@ -49,9 +43,6 @@ pairwise-both r s (x ∷ xs) = rw (← all-both (r x) (s x) xs, pairwise-both r 
     swap true false true d = refl
     swap true false false d = refl
     swap false b c d = refl
-
-in-first : (n : ℕ) {i : ℕ} → In i (range 0 n) → i < n
-in-first n m = omega (arith, in-range 0 n m .1)
 
 -- the same but for the begin, or live apart
 apart-of : (a b c : Bool) → (not (a && c) || not b) ≡ (not a || not b || not c)
@@ -101,71 +92,88 @@ hash-tells size group begin run names i j d =
     absurd (d (ap₂ (λ (k : ℕ) (xs : List ℕ). hashed false (digest false 0 (k ∷ nameWords xs))) (eqb-true _ _ (b .0)) (same-words (nameAt names i) (nameAt names j) (b .1)))))
     (λ t. rw t refl)
 
-module _ {size : ℕ} {group : Group} {begin : ℕ} {run names : List ℕ} {n : ℕ} (h : NamesLiving size group begin run names n) where
-  -- the hashes of all are below their limit, and places left by them decide as much as all
-  module _ {w hashes : List ℕ} {m : ℕ} (e : w ≡ range 0 n) (l : m ≡ n) (g : hashes ≡ map (nameHash size group run names) (range 0 m)) where
-    pub names-hashed : (length hashes ≡ length w) × (all (λ h. ltb h hashLimit) hashes ≡ true)
-    names-hashed = (rw (e, g, l, length-map) refl, all-below (nameHash size group run names) hashLimit (λ i. omega arith) (range 0 m) g)
-
-    pub names-kept : {left : List ℕ} → ((hash : ℕ → ℕ) → hashes ≡ map hash w → Kept hash w left) → Kept (nameHash size group run names) (range 0 n) left
-    names-kept f = rw e at (f (nameHash size group run names) (rw (e, g, l) refl))
-
-  -- keys put for places left by hashes
-  module _ {left keys : List ℕ} (k : Kept (nameHash size group run names) (range 0 n) left) (p : KeysPut (nameKey size group begin run names) nameKeySize left keys) where
-    first-words : (i : ℕ) → In i left → prefixAt nameKeyBegin nameKeySize keys i ≡ nameWordsAt size group run names i
-    unfolding range
-    first-words i m = ap (take nameKeyBegin) (p .put i m)
-
-    last-word : (i : ℕ) → In i left → field nameKeySize nameKeyBegin keys i ≡ field size begin run i
-    unfolding range
-    last-word i m = ap (λ (ws : List ℕ). getD ws nameKeyBegin 0) (p .put i m)
-
-    below : (i : ℕ) → In i left → i < n
-    below i m = ltb-true i n (all-in (λ q. ltb q n) left (k .within (λ q. ltb q n) (within-range n)) m)
-
-    same-name : (i j : ℕ) → In i left → In j left
-        → samePrefix nameKeyBegin nameKeySize keys i j ≡ (eqb (groupOf group size run i) (groupOf group size run j) && sameName (nameAt names i) (nameAt names j))
-    unfolding agree
-    same-name i j a b =
-        rw (first-words i a, first-words j b, words-agree (nameAt names i) (nameAt names j) (h .named i (below i a)) (h .named j (below j b))) refl
-
-    -- keys that are compared decide names
-    pub names-are : {r : Bool}
-        → ((m : ℕ) → Living size begin run m → all (keyedAt nameKeyBegin keys size begin run m) left ≡ true → r ≡ pairwise (keysApart nameKeyBegin keys size begin run) left)
-        → r ≡ pairwise (namesApartAt size group begin run names) (range 0 n)
-    names-are f =
-        f n (h .living) (in-all (keyedAt nameKeyBegin keys size begin run n) left (λ i m. and (lt-ltb i n (below i m)) (eq-eqb _ _ (last-word i m))))
-        ∙ (pairwise-ext (keysApart nameKeyBegin keys size begin run) (namesApartAt size group begin run names) left
-        (λ i j a b. rw (same-name i j a b)
-        (apart-of (eqb (groupOf group size run i) (groupOf group size run j)) (liveTogether size begin run i j) (sameName (nameAt names i) (nameAt names j))))
-        ∙ k .decided (namesApartAt size group begin run names) (hash-tells size group begin run names))
-
-module _ (run : List ℕ) (n : ℕ) (h : Living columnSize columnBeginWord run n) {k₀ k₁ k₂ k₃ : List ℕ} (p : Put (field columnSize columnTableWord run) orderKeySize 0 0 n k₀ k₁)
-    (q : Put (field columnSize columnOrderWord run) orderKeySize 1 0 n k₁ k₂) (r : Put (field columnSize columnBeginWord run) orderKeySize orderKeyBegin 0 n k₂ k₃) where
-  pub orders-keyed : {l : ℕ} → l ≡ n → orderKeySize * n ≤ length k₀ → LivesKeyed orderKeyBegin k₃ columnSize columnBeginWord run l
-  orders-keyed e l = rw e (record { short = omega arith; living = h; room = omega (arith, p .long, q .long, r .long); begins = put-at r })
-
-  order-words : (i : ℕ) → i < n → prefixAt orderKeyBegin orderKeySize k₃ i ≡ field columnSize columnTableWord run i ∷ (field columnSize columnOrderWord run i ∷ [])
+-- keys put for places left by hashes decide names
+module _ {size : ℕ} {group : Group} {begin : ℕ} {run names : List ℕ} {n : ℕ} (h : NamesLiving size group begin run names n) {left keys : List ℕ}
+    (k : Kept (nameHash size group run names) (range 0 n) left) (p : KeysPut (nameKey size group begin run names) nameKeySize left keys) where
+  name-words : (i : ℕ) → In i left → prefixAt nameKeyBegin nameKeySize keys i ≡ nameWordsAt size group run names i
   unfolding range
-  order-words i l =
-      rw (
-        r .others i 0 (omega arith) (λ (e : 0 ≡ orderKeyBegin). omega arith) ∙ (q .others i 0 (omega arith) (λ (e : 0 ≡ 1). omega arith) ∙ put-at p i l),
-        r .others i 1 (omega arith) (λ (e : 1 ≡ orderKeyBegin). omega arith) ∙ put-at q i l,
-      ) refl
+  name-words i m = ap (take nameKeyBegin) (p .put i m)
 
-  same-order : (i j : ℕ) → i < n → j < n
-      → samePrefix orderKeyBegin orderKeySize k₃ i j
+  name-begin : (i : ℕ) → In i left → field nameKeySize nameKeyBegin keys i ≡ field size begin run i
+  unfolding range
+  name-begin i m = ap (λ (ws : List ℕ). getD ws nameKeyBegin 0) (p .put i m)
+
+  same-name : (i j : ℕ) → In i left → In j left
+      → samePrefix nameKeyBegin nameKeySize keys i j ≡ (eqb (groupOf group size run i) (groupOf group size run j) && sameName (nameAt names i) (nameAt names j))
+  unfolding agree
+  same-name i j a b =
+      rw (name-words i a, name-words j b, words-agree (nameAt names i) (nameAt names j) (h .named i (left-below n k i a)) (h .named j (left-below n k j b))) refl
+
+  pub names-are : {r : Bool}
+      → ((m : ℕ) → Living size begin run m → all (keyedAt nameKeyBegin keys size begin run m) left ≡ true → r ≡ pairwise (keysApart nameKeyBegin keys size begin run) left)
+      → r ≡ pairwise (namesApartAt size group begin run names) (range 0 n)
+  names-are f =
+      left-apart n k (namesApartAt size group begin run names) nameKeyBegin size begin run keys (h .living) (hash-tells size group begin run names) name-begin
+      (λ i j a b. rw (same-name i j a b)
+      (apart-of (eqb (groupOf group size run i) (groupOf group size run j)) (liveTogether size begin run i j) (sameName (nameAt names i) (nameAt names j)))) f
+
+-- keys in a run that is as long as it was
+pub keyed-still : {size : ℕ} {old new places : List ℕ} → length new ≡ length old → Keyed size old places → Keyed size new places
+keyed-still e k = record { keyed = rw e (k .keyed) }
+
+-- a word of each of three for an order
+pub order-keys : (run : List ℕ) {left k₀ k₁ k₂ k₃ : List ℕ} → Put (field columnSize columnTableWord run) orderKeySize 0 left k₀ k₁
+    → Put (field columnSize columnOrderWord run) orderKeySize 1 left k₁ k₂ → Put (field columnSize columnBeginWord run) orderKeySize orderKeyBegin left k₂ k₃
+    → KeysPut (orderKey run) orderKeySize left k₃
+unfolding range
+order-keys run p q r = record {
+  put = λ i m. rw (
+    r .others i 0 (omega arith) (λ (e : 0 ≡ orderKeyBegin). omega arith) ∙ (q .others i 0 (omega arith) (λ (e : 0 ≡ 1). omega arith) ∙ p .put i m),
+    r .others i 1 (omega arith) (λ (e : 1 ≡ orderKeyBegin). omega arith) ∙ q .put i m,
+    r .put i m,
+  ) refl;
+}
+
+-- of as many columns as there are places
+pub columns-as-long : {run : List ℕ} {l n : ℕ} → l ≡ n → Living columnSize columnBeginWord run n → Living columnSize columnBeginWord run l
+columns-as-long e h = rw e h
+
+-- two columns of one table and one order have one hash
+order-tells : (run : List ℕ) (i j : ℕ) → (orderHash run i ≡ orderHash run j → ⊥) → ordersApartAt run i j ≡ true
+order-tells run i j d =
+    let g = eqb (field columnSize columnTableWord run i) (field columnSize columnTableWord run j) in
+    let s = eqb (field columnSize columnOrderWord run i) (field columnSize columnOrderWord run j) in
+    sym (apart-of g (liveTogether columnSize columnBeginWord run i j) s)
+    ∙ if (g && s)
+    (λ t. let b = both g s t in absurd (d (ap₂ (λ (k l : ℕ). hashed false (digest false 0 (k ∷ (l ∷ [])))) (eqb-true _ _ (b .0)) (eqb-true _ _ (b .1)))))
+    (λ t. rw t refl)
+
+-- keys put for places left by hashes decide orders
+module _ {run : List ℕ} {n : ℕ} (h : Living columnSize columnBeginWord run n) {left keys : List ℕ} (k : Kept (orderHash run) (range 0 n) left)
+    (p : KeysPut (orderKey run) orderKeySize left keys) where
+  order-words : (i : ℕ) → In i left → prefixAt orderKeyBegin orderKeySize keys i ≡ field columnSize columnTableWord run i ∷ (field columnSize columnOrderWord run i ∷ [])
+  unfolding range
+  order-words i m = ap (take orderKeyBegin) (p .put i m)
+
+  order-begin : (i : ℕ) → In i left → field orderKeySize orderKeyBegin keys i ≡ field columnSize columnBeginWord run i
+  unfolding range
+  order-begin i m = ap (λ (ws : List ℕ). getD ws orderKeyBegin 0) (p .put i m)
+
+  same-order : (i j : ℕ) → In i left → In j left
+      → samePrefix orderKeyBegin orderKeySize keys i j
       ≡ (eqb (field columnSize columnTableWord run i) (field columnSize columnTableWord run j) && eqb (field columnSize columnOrderWord run i) (field columnSize columnOrderWord run j))
   unfolding agree
-  same-order i j k l = rw (order-words i k, order-words j l, and-true) refl
+  same-order i j a b = rw (order-words i a, order-words j b, and-true) refl
 
-  pub orders-are : {l : ℕ} {t : Bool} → l ≡ n → t ≡ pairwise (keysApart orderKeyBegin k₃ columnSize columnBeginWord run) (range 0 l) → t ≡ pairwise (ordersApartAt run) (range 0 n)
-  orders-are e f =
-      pairs-as-long (keysApart orderKeyBegin k₃ columnSize columnBeginWord run) e f
-      ∙ pairwise-ext (keysApart orderKeyBegin k₃ columnSize columnBeginWord run) (ordersApartAt run) (range 0 n)
-      (λ i j a b. rw (same-order i j (in-first n a) (in-first n b))
+  pub orders-are : {r : Bool}
+      → ((m : ℕ) → Living columnSize columnBeginWord run m → all (keyedAt orderKeyBegin keys columnSize columnBeginWord run m) left ≡ true
+      → r ≡ pairwise (keysApart orderKeyBegin keys columnSize columnBeginWord run) left)
+      → r ≡ pairwise (ordersApartAt run) (range 0 n)
+  orders-are f =
+      left-apart n k (ordersApartAt run) orderKeyBegin columnSize columnBeginWord run keys h (order-tells run) order-begin
+      (λ i j a b. rw (same-order i j a b)
       (apart-of (eqb (field columnSize columnTableWord run i) (field columnSize columnTableWord run j)) (liveTogether columnSize columnBeginWord run i j)
-      (eqb (field columnSize columnOrderWord run i) (field columnSize columnOrderWord run j))))
+      (eqb (field columnSize columnOrderWord run i) (field columnSize columnOrderWord run j)))) f
 
 -- what the tables with names come to
 

@@ -1,16 +1,16 @@
 -- What the functions rely on, named.
-use Prim.Native.Nat.{ℕ, _+_, _*_, _≤_, _<_}
+use Prim.Native.Nat.{ℕ, _*_, _≤_, _<_}
 use mathlib.Core.Path.{_≡_}
 use mathlib.Core.Bool.{true}
 use mathlib.Core.List.{List}
 use lib.Dec.{ltb}
 use lib.ListN.{length}
 use Rattle.lists.specs.Lists.{all}
-use Rattle.lists.specs.Runs.{field}
 use Rattle.layout.specs.declared.outcome.Counts.{Counts}
 use Rattle.layout.specs.Fields.{snapshotSize, schemaSize, tableSize, columnSize, dataFileSize, deleteFileSize, scheduledSize}
 use Rattle.layout.specs.Names.{nameSize, isName}
 use Rattle.layout.specs.Words.{schemasIn, tablesIn, columnsIn}
+use Rattle.lookup.specs.Order.{SchemasById, TablesById, DataFilesById, DeleteFilesById}
 use Rattle.soundness_unique.specs.declared.distinct.FileWords.{FileWords}
 use Rattle.soundness_unique.specs.Files.{fileCount}
 use Rattle.soundness_unique.specs.Naming.{nameKeySize}
@@ -21,13 +21,15 @@ pub record FilesLent (dataFiles deleteFiles scheduled : List ℕ) (counts : Coun
   pub deleteFilesLent : deleteFileSize * counts .«delete_files» ≤ length deleteFiles
   pub scheduledLent : scheduledSize * counts .scheduled ≤ length scheduled
 
--- the tables whose records have ids from a counter are lent as far as they are used, and there is a latest snapshot
+-- the ids from a counter ascend but in scheduled, the tables are lent as far as they are used, and there is a latest snapshot
 pub record Numbered (snapshots schemas tables dataFiles deleteFiles scheduled : List ℕ) (counts : Counts) : Type 0 where
   pub snapshotsLent : snapshotSize * counts .snapshots ≤ length snapshots
   pub latest : 0 < counts .snapshots
-  pub schemasLent : schemaSize * counts .schemas ≤ length schemas
-  pub tablesLent : tableSize * counts .tables ≤ length tables
-  pub filesLent : FilesLent dataFiles deleteFiles scheduled counts
+  pub schemasById : SchemasById schemas (counts .schemas)
+  pub tablesById : TablesById tables (counts .tables)
+  pub dataFilesById : DataFilesById dataFiles (counts .«data_files»)
+  pub deleteFilesById : DeleteFilesById deleteFiles (counts .«delete_files»)
+  pub scheduledLent : scheduledSize * counts .scheduled ≤ length scheduled
 
 -- the tables with names are lent as far as they are used; their names are names, and their records' lives not empty
 pub record Named (schemas schemaNames tables tableNames columns columnNames : List ℕ) (counts : Counts) : Type 0 where
@@ -44,22 +46,18 @@ pub record Named (schemas schemaNames tables tableNames columns columnNames : Li
   pub columnsNamed : all (λ v. isName (v .body .name)) (columnsIn columns columnNames (counts .columns)) ≡ true
   pub columnsLive : all (λ v. ltb (v .begin) (v .end)) (columnsIn columns columnNames (counts .columns)) ≡ true
 
--- keys of `size` words, as many as there are files, and a word of each table to be put into their word `at`
-pub record FilesPuttable (counts : Counts) (words : FileWords) (size at : ℕ) (keys : List ℕ) : Type 0 where
+-- a word of a record of each table
+pub record WordsInside (words : FileWords) : Type 0 where
   pub inDataFile : words .«data_file» < dataFileSize
   pub inDeleteFile : words .«delete_file» < deleteFileSize
   pub inScheduled : words .scheduled < scheduledSize
+
+-- such words of files at some places, and keys of `size` words, as many as there are files, into whose word `at` they can be put
+pub record FilesPuttable (counts : Counts) (words : FileWords) (size at : ℕ) (places keys : List ℕ) : Type 0 where
+  pub inside : WordsInside words
+  pub present : all (λ p. ltb p (fileCount counts)) places ≡ true
   pub room : size * fileCount counts ≤ length keys
   pub within : at < size
-
--- and keys into which they were put
-pub record FilesPut (d e x : List ℕ) (counts : Counts) (words : FileWords) (size at : ℕ) (old new : List ℕ) : Type 0 where
-  pub dataFiles : (i : ℕ) → i < counts .«data_files» → field size at new i ≡ field dataFileSize (words .«data_file») d i
-  pub deleteFiles : (i : ℕ) → i < counts .«delete_files»
-      → field size at new (counts .«data_files» + i) ≡ field deleteFileSize (words .«delete_file») e i
-  pub scheduled : (i : ℕ) → i < counts .scheduled
-      → field size at new (counts .«data_files» + counts .«delete_files» + i) ≡ field scheduledSize (words .scheduled) x i
-  pub others : (i k : ℕ) → k < size → (k ≡ at → ⊥) → field size k new i ≡ field size k old i
 
 -- scratch for keys of one or two words, and as many places as there are files
 pub record FilesSortable (counts : Counts) (keys w v : List ℕ) : Type 0 where

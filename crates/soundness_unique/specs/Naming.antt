@@ -11,7 +11,7 @@ use Rattle.layout.specs.Names.{nameSize, nameAt, isName, sameName}
 use Rattle.ducklake.specs.Soundness.{overlap}
 use Rattle.lookup.specs.Versions.{lifeAt, withLife}
 use Rattle.names.specs.NameWords.{nameWords}
-use Rattle.sorting.specs.Colliding.{samePrefix, digest, hashed}
+use Rattle.sorting.specs.Colliding.{samePrefix, digest, hashed, pairHash}
 use Rattle.sorting.specs.Keys.{keyAt}
 use Rattle.soundness_unique.specs.declared.naming.Group.{Group}
 use Rattle.soundness_unique.specs.declared.naming.Group.the-variants.{All, With}
@@ -50,6 +50,13 @@ nameHash size group run names i = hashed false (digest false 0 (nameWordsAt size
 abbrev pub nameKey : ℕ → Group → ℕ → List ℕ → List ℕ → ℕ → List ℕ
 nameKey size group begin run names i = nameWordsAt size group run names i ++ (field size begin run i ∷ [])
 
+-- of columns, the table and the order
+abbrev pub orderHash : List ℕ → ℕ → ℕ
+orderHash run i = pairHash columnSize columnTableWord columnOrderWord run i
+
+abbrev pub orderKey : List ℕ → ℕ → List ℕ
+orderKey run i = field columnSize columnTableWord run i ∷ (field columnSize columnOrderWord run i ∷ (field columnSize columnBeginWord run i ∷ []))
+
 -- each of the places has as its key what f says
 pub record KeysPut (f : ℕ → List ℕ) (size : ℕ) (places keys : List ℕ) : Type 0 where
   pub put : (i : ℕ) → In i places → keyAt size keys i ≡ f i
@@ -81,13 +88,6 @@ pub record Living (size begin : ℕ) (run : List ℕ) (n : ℕ) : Type 0 where
 -- a place of one of them, and of a key with its begin in the last word
 abbrev pub keyedAt : ℕ → List ℕ → ℕ → ℕ → List ℕ → ℕ → ℕ → Bool
 keyedAt used keys size begin run n i = ltb i n && eqb (field (used + 1) used keys i) (field size begin run i)
-
--- keys of all of them, no longer than those of names
-pub record LivesKeyed (used : ℕ) (keys : List ℕ) (size begin : ℕ) (run : List ℕ) (n : ℕ) : Type 0 where
-  pub short : used < nameKeySize
-  pub living : Living size begin run n
-  pub room : (used + 1) * n ≤ length keys
-  pub begins : (i : ℕ) → i < n → field (used + 1) used keys i ≡ field size begin run i
 
 -- n records of `size` words whose lives are not empty, with names
 pub record NamesLiving (size : ℕ) (group : Group) (begin : ℕ) (run names : List ℕ) (n : ℕ) : Type 0 where

@@ -5,9 +5,10 @@ ghost use Prim.Native.Nat.{ℕ, _*_, _≤_};
 ghost use lib.Dec.{ltb};
 ghost use lib.ListN.{length};
 ghost use Rattle.lists.specs.Lists.{all};
-ghost use Rattle.layout.specs.Fields.{schemaSize, tableSize};
+ghost use Rattle.layout.specs.Fields.{scheduledSize};
 ghost use Rattle.layout.specs.Words.{Words, load, schemasIn, tablesIn, dataFilesIn, deleteFilesIn, scheduledIn};
 ghost use Rattle.ducklake.specs.Soundness.{idsOfFiles, idsBelowNext, filesDistinct};
+ghost use Rattle.lookup.specs.Order.{SchemasById, TablesById, DataFilesById, DeleteFilesById};
 ghost use Rattle.soundness_unique.specs.Comparable.{Numbered, FilesLent, FilesScratch};
 use crate::distinct::files_differ;
 use layout::number::CatalogId;
@@ -19,23 +20,24 @@ use layout::record::ScheduledRecord;
 use layout::record::SchemaRecord;
 use layout::record::TableRecord;
 use lookup::find::latest_snapshot;
+use runs::fields::ascending_below;
 use runs::fields::fields_below;
 
-// Whether the ids of schemas and of tables are below that one.
+// Whether the ids of schemas and of tables, which ascend, are below that one.
 fn catalog_ids_below(schemas: &[u64], tables: &[u64], counts: Counts, next: CatalogId) -> bool
-    requires { ⌜ (schemaSize * counts .schemas ≤ length (now schemas)) × (tableSize * counts .tables ≤ length (now tables)) ⌝ }
+    requires { ⌜ SchemasById (now schemas) (counts .schemas) × TablesById (now tables) (counts .tables) ⌝ }
     ensures { λ r. ⌜ ((names tableNames : List ℕ)
         → r ≡ (all (λ v. ltb (v .id) (next .0)) (schemasIn (now (schemas .entry)) names (counts .schemas))
         && all (λ v. ltb (v .id) (next .0)) (tablesIn (now (tables .entry)) tableNames (counts .tables)))) ⌝ }
 {
     let n = counts.schemas;
     let m = counts.tables;
-    let a = fields_below(schemas, SchemaRecord::SIZE, SchemaRecord::ID, n, next.0);
-    let b = fields_below(tables, TableRecord::SIZE, TableRecord::ID, m, next.0);
+    let a = ascending_below(schemas, SchemaRecord::SIZE, SchemaRecord::ID, n, next.0);
+    let b = ascending_below(tables, TableRecord::SIZE, TableRecord::ID, m, next.0);
     a & b
 }
 
-// Whether the ids of files, scheduled ones too, are below that one.
+// Whether the ids of files, scheduled ones too, are below that one: those of scheduled files are in no order.
 fn file_ids_below(
     data_files: &[u64],
     delete_files: &[u64],
@@ -43,7 +45,8 @@ fn file_ids_below(
     counts: Counts,
     next: FileId,
 ) -> bool
-    requires { ⌜ FilesLent (now «data_files») (now «delete_files») (now scheduled) counts ⌝ }
+    requires { ⌜ DataFilesById (now «data_files») (counts .«data_files») × DeleteFilesById (now «delete_files») (counts .«delete_files»)
+        × (scheduledSize * counts .scheduled ≤ length (now scheduled)) ⌝ }
     ensures { λ r. ⌜ ((positions : List ℕ) → r ≡ all (λ k. ltb k (next .0)) (idsOfFiles
         (dataFilesIn (now («data_files» .entry)) (counts .«data_files»))
         (deleteFilesIn (now («delete_files» .entry)) positions (counts .«delete_files»))
@@ -52,14 +55,14 @@ fn file_ids_below(
     let n = counts.data_files;
     let m = counts.delete_files;
     let k = counts.scheduled;
-    let a = fields_below(
+    let a = ascending_below(
         data_files,
         DataFileRecord::SIZE,
         DataFileRecord::ID,
         n,
         next.0,
     );
-    let b = fields_below(
+    let b = ascending_below(
         delete_files,
         DeleteFileRecord::SIZE,
         DeleteFileRecord::ID,

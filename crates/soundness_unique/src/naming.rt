@@ -12,7 +12,7 @@ ghost use Rattle.ducklake.specs.Soundness.{namesApart};
 ghost use Rattle.sorting.specs.Colliding.{samePrefix};
 ghost use Rattle.sorting.specs.Keys.{Keyed};
 ghost use Rattle.soundness_unique.specs.declared.naming.Group.the-variants.{With};
-ghost use Rattle.soundness_unique.specs.Naming.{nameKeySize, orderKeySize, groupOf, isInside, nameHash, nameKey, KeysPut, keysApart, namesApartAt, ordersApartAt, Living, keyedAt, LivesKeyed, NamesLiving, Scratch, NameLent};
+ghost use Rattle.soundness_unique.specs.Naming.{nameKeySize, orderKeySize, groupOf, isInside, nameHash, nameKey, orderKey, KeysPut, keysApart, namesApartAt, ordersApartAt, Living, keyedAt, NamesLiving, Scratch, NameLent};
 ghost use Rattle.soundness_unique.specs.Comparable.{Named, NamesScratch};
 use layout::outcome::Counts;
 use layout::record::ColumnRecord;
@@ -26,6 +26,7 @@ use runs::fields::fields_ascend;
 use runs::pairs::pairs_ascend;
 use sorting::colliding::absorb;
 use sorting::colliding::hash;
+use sorting::colliding::hash_pairs;
 use sorting::colliding::keep_colliding;
 use sorting::colliding::thin;
 use sorting::keys::put_words;
@@ -154,25 +155,6 @@ fn places_apart(
     let key_size = used + 1;
     let r = thin(keys, key_size, used, true, w, v);
     sorted_apart(keys, used, table, size, begin, &mut w[..r], &mut v[..r])
-}
-
-// The same of as many records as w is long: those whose first words no other has, by the first hash, need no second. w and v are scratch.
-fn lives_apart(
-    keys: &[u64],
-    used: usize,
-    table: &[u64],
-    size: usize,
-    begin: usize,
-    w: &mut [usize],
-    v: &mut [usize],
-) -> bool
-    requires { ⌜ LivesKeyed used (now keys) size begin (now table) (length (now w)) × (length (now v) ≡ length (now w)) ⌝ }
-    ensures { λ r. ⌜ r ≡ pairwise (keysApart used (now (keys .entry)) size begin (now (table .entry))) (range 0 (length (now (w .entry)))) ⌝ }
-{
-    number(w);
-    let key_size = used + 1;
-    let r = thin(keys, key_size, used, false, w, v);
-    places_apart(keys, used, table, size, begin, &mut w[..r], &mut v[..r])
 }
 
 // The number of the group of the record at place i.
@@ -316,7 +298,70 @@ fn names_apart_by(
     )
 }
 
-// Whether columns of one table that share a live number have different orders; keys, w and v are scratch.
+// The keys of the columns at those places: the table, the order, the begin.
+fn put_order_keys(columns: &[u64], w: &[usize], keys: &mut [u64])
+    requires { ⌜ Keyed columnSize (now columns) (now w) × Keyed orderKeySize (now keys) (now w) ⌝ }
+    ensures { λ _. ⌜ (length (now (keys .exit)) ≡ length (now (keys .entry)))
+        × KeysPut (orderKey (now (columns .entry))) orderKeySize (now (w .entry)) (now (keys .exit)) ⌝ }
+{
+    let size = ColumnRecord::SIZE;
+    put_words(
+        columns,
+        size,
+        ColumnRecord::TABLE,
+        w,
+        keys,
+        ORDER_KEY_SIZE,
+        0,
+    );
+    put_words(
+        columns,
+        size,
+        ColumnRecord::ORDER,
+        w,
+        keys,
+        ORDER_KEY_SIZE,
+        1,
+    );
+    put_words(
+        columns,
+        size,
+        ColumnRecord::BEGIN,
+        w,
+        keys,
+        ORDER_KEY_SIZE,
+        ORDER_KEY_BEGIN,
+    );
+}
+
+// Whether columns of one table that share a live number have different orders, of as many as w is long: those whose table and order no other has, by
+// the first hash, need no key. keys, w and v are scratch.
+fn all_orders_apart(columns: &[u64], keys: &mut [u64], w: &mut [usize], v: &mut [usize]) -> bool
+    requires { ⌜ Living columnSize columnBeginWord (now columns) (length (now w))
+        × (orderKeySize * length (now w) ≤ length (now keys)) × (length (now v) ≡ length (now w)) ⌝ }
+    ensures { λ r. ⌜ r ≡ pairwise (ordersApartAt (now (columns .entry))) (range 0 (length (now (w .entry)))) ⌝ }
+{
+    let size = ColumnRecord::SIZE;
+    let table = ColumnRecord::TABLE;
+    let order = ColumnRecord::ORDER;
+    let begin = ColumnRecord::BEGIN;
+    let n = w.len();
+    number(w);
+    hash_pairs(columns, size, table, order, n, v, 0);
+    let r = keep_colliding(v, w);
+    put_order_keys(columns, &w[..r], keys);
+    places_apart(
+        keys,
+        ORDER_KEY_BEGIN,
+        columns,
+        size,
+        begin,
+        &mut w[..r],
+        &mut v[..r],
+    )
+}
+
+// The same of n columns, in scratch that may be longer.
 fn orders_apart_by(
     columns: &[u64],
     n: usize,
@@ -327,31 +372,7 @@ fn orders_apart_by(
     requires { ⌜ Living columnSize columnBeginWord (now columns) n × Scratch orderKeySize n (now keys) (now w) (now v) ⌝ }
     ensures { λ r. ⌜ r ≡ pairwise (ordersApartAt (now (columns .entry))) (range 0 n) ⌝ }
 {
-    let size = ColumnRecord::SIZE;
-    let table = ColumnRecord::TABLE;
-    let order = ColumnRecord::ORDER;
-    let begin = ColumnRecord::BEGIN;
-    put_words(columns, size, table, n, keys, ORDER_KEY_SIZE, 0, 0);
-    put_words(columns, size, order, n, keys, ORDER_KEY_SIZE, 1, 0);
-    put_words(
-        columns,
-        size,
-        begin,
-        n,
-        keys,
-        ORDER_KEY_SIZE,
-        ORDER_KEY_BEGIN,
-        0,
-    );
-    lives_apart(
-        keys,
-        ORDER_KEY_BEGIN,
-        columns,
-        size,
-        begin,
-        &mut w[0..n],
-        &mut v[0..n],
-    )
+    all_orders_apart(columns, keys, &mut w[0..n], &mut v[0..n])
 }
 
 // The same: at once where columns ascend by table and order, which is how calls write them.

@@ -5,7 +5,7 @@ use Rattle.soundness_unique.proofs.files.catalog_ids_below.Statement.{s
 use Rattle.soundness_unique.proofs.files.catalog_ids_below.Tie as tie
 
 returns : tie.Need-returns
-returns c names tableNames = catalog-ids-below _ _ names tableNames _ _ _ (c .before .fields-below .ensures) (c .fields-below2 .ensures)
+returns c names tableNames = catalog-ids-below _ _ names tableNames _ _ _ (c .before .ascending-below .ensures) (c .ascending-below2 .ensures)
 
 pub catalog-ids-below-spec : {M : Type 1} → statement M
 catalog-ids-below-spec =

@@ -5,7 +5,7 @@ use Rattle.soundness_unique.proofs.files.file_ids_below.Statement.{stat
 use Rattle.soundness_unique.proofs.files.file_ids_below.Tie as tie
 
 returns : tie.Need-returns
-returns c positions = file-ids-below _ _ _ positions _ _ _ _ (c .before .before .fields-below .ensures) (c .before .fields-below2 .ensures) (c .fields-below3 .ensures)
+returns c positions = file-ids-below _ _ _ positions _ _ _ _ (c .before .before .ascending-below .ensures) (c .before .ascending-below2 .ensures) (c .fields-below .ensures)
 
 pub file-ids-below-spec : {M : Type 1} → statement M
 file-ids-below-spec =

@@ -2,13 +2,14 @@
 use borrow.Author.Needs.{needs}
 use mathlib.Core.Path.{sym}
 use native.Mathlib.Omega.{arith}
-use lib.ListN.{length-take}
+use lib.ListN.{length, take, length-take}
 use lib.Seq.{length-take-le}
+use Rattle.lists.specs.Lists.{range}
 use Rattle.layout.specs.Names.{nameSize}
-use Rattle.sorting.proofs.KeyOrder.{keyed-range}
-use Rattle.soundness_unique.specs.Naming.{nameKeySize}
-use Rattle.soundness_unique.proofs.LifeOrder.{kept-lent}
-use Rattle.soundness_unique.proofs.NameKeys.{names-hashed, names-kept, names-are}
+use Rattle.sorting.specs.Colliding.{Kept}
+use Rattle.soundness_unique.specs.Naming.{nameKeySize, nameHash}
+use Rattle.soundness_unique.proofs.LeftPlaces.{all-hashed, left-kept, left-keyed}
+use Rattle.soundness_unique.proofs.NameKeys.{names-are}
 use Rattle.soundness_unique.proofs.naming.all_names_apart.Statement.{statement}
 use Rattle.soundness_unique.proofs.naming.all_names_apart.Tie as tie
 
@@ -23,7 +24,20 @@ keep-colliding-requires c κs =
     let hashed : tie.After-hash-names = search in
     let numbered : tie.After-number = search in
     let start : tie.Start = search in
-    names-hashed (start .pre .0) (numbered .number .ensures) (start .pre .2) (hashed .hash-names .ensures)
+    all-hashed _ (λ i. omega arith) (numbered .number .ensures) (start .pre .2) (hashed .hash-names .ensures)
+
+abbrev begun : tie.After-keep-colliding → tie.Start
+begun c = search
+
+-- the places left
+left : (c : tie.After-keep-colliding)
+    → let a = begun c .args in
+    Kept (nameHash (a .size) (a .group) (a .table .now) (a .names .now)) (range 0 (length (a .w .now))) (take (c .keep-colliding .result) (c .keep-colliding .last .1 .0))
+left c =
+    let hashed : tie.After-hash-names = search in
+    let numbered : tie.After-number = search in
+    let start = begun c in
+    left-kept _ (λ i. omega arith) (numbered .number .ensures) (start .pre .2) (hashed .hash-names .ensures) (c .keep-colliding .ensures .2)
 
 slice-aggregate-put-name-keys : tie.Need-slice-aggregate-put-name-keys
 slice-aggregate-put-name-keys c =
@@ -34,16 +48,14 @@ slice-aggregate-put-name-keys c =
 put-name-keys-requires : tie.Need-put-name-keys-requires
 put-name-keys-requires c κs =
     let kept : tie.After-keep-colliding = search in
-    let hashed : tie.After-hash-names = search in
-    let numbered : tie.After-number = search in
     let start : tie.Start = search in
     let p = start .pre in
-    let k = names-kept (p .0) (numbered .number .ensures) (p .2) (hashed .hash-names .ensures) (kept .keep-colliding .ensures .2) in (
-      kept-lent _ _ k (keyed-range _ _ _ (p .0 .living .lent)),
+    let k = left kept in (
+      left-keyed _ k _ _ (p .0 .living .lent),
       p .0 .grouped,
       omega (arith, p .0 .living .inside),
-      kept-lent nameSize _ k (keyed-range nameSize _ _ (p .0 .namesLent)),
-      kept-lent nameKeySize _ k (keyed-range nameKeySize _ _ (p .1)),
+      left-keyed _ k nameSize _ (p .0 .namesLent),
+      left-keyed _ k nameKeySize _ (p .1),
     )
 
 slice-aggregate-places-apart : tie.Need-slice-aggregate-places-apart
@@ -70,9 +82,9 @@ places-apart-requires c κs =
     let start : tie.Start = search in
     let p = start .pre in
     let t = kept .keep-colliding in
-    let k = names-kept (p .0) (numbered .number .ensures) (p .2) (hashed .hash-names .ensures) (t .ensures .2) in (
-      kept-lent nameKeySize _ k (keyed-range nameKeySize _ _ (omega (arith, p .1, put .put-name-keys .ensures .0))),
-      kept-lent _ _ k (keyed-range _ _ _ (p .0 .living .lent)),
+    let k = left kept in (
+      left-keyed _ k nameKeySize _ (omega (arith, p .1, put .put-name-keys .ensures .0)),
+      left-keyed _ k _ _ (p .0 .living .lent),
       omega arith,
       p .0 .living .inside,
       simp length-take (omega (arith, p .2, numbered .number .kept .0, hashed .hash-names .kept .1 .1 .1 .1 .0, t .kept .0, t .ensures .0)),
@@ -83,11 +95,7 @@ returns c =
     let decided : tie.After-places-apart = search in
     let put : tie.After-put-name-keys = search in
     let kept : tie.After-keep-colliding = search in
-    let hashed : tie.After-hash-names = search in
-    let numbered : tie.After-number = search in
-    let start : tie.Start = search in
-    let p = start .pre in
-    names-are (p .0) (names-kept (p .0) (numbered .number .ensures) (p .2) (hashed .hash-names .ensures) (kept .keep-colliding .ensures .2)) (put .put-name-keys .ensures .1) (decided .places-apart .ensures)
+    names-are (begun kept .pre .0) (left kept) (put .put-name-keys .ensures .1) (decided .places-apart .ensures)
 
 pub all-names-apart-spec : {M : Type 1} → statement M
 all-names-apart-spec =
