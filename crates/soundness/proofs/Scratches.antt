@@ -37,7 +37,7 @@ none-above c most h =
       scheduled = leb-true _ _ (e .1);
     }
 
-module _ {c : Counts} {keys w v : List ℕ} (s : Scratch c keys w v) where
+module _ {c : Counts} {keys w v u : List ℕ} (s : Scratch c keys w v u) where
   most : Most c (s .most)
   most = none-above c (s .most) (s .few)
 
@@ -59,9 +59,13 @@ module _ {c : Counts} {keys w v : List ℕ} (s : Scratch c keys w v) where
     spare = omega (arith, s .spare);
   }
 
-  pub deletes-scratch : (2 * c .«delete_files» ≤ length keys) × (c .«delete_files» ≤ length w) × (c .«delete_files» ≤ length v)
-  deletes-scratch = let m = most in (omega (arith, m .deleteFiles, s .room), omega (arith, m .deleteFiles, s .places), omega (arith, m .deleteFiles, s .spare))
+  pub deletes-scratch : (2 * c .«delete_files» ≤ length keys) × (c .«delete_files» ≤ length w) × (c .«delete_files» ≤ length v) × (c .«delete_files» ≤ length u)
+  deletes-scratch = let d = most .deleteFiles in (omega (arith, d, s .room), omega (arith, d, s .places), omega (arith, d, s .spare), omega (arith, d, s .starts))
+
+  -- of what is as long as the keys
+  pub rows-scratch : {n : ℕ} → n ≡ length keys → c .tables ≤ n
+  rows-scratch e = omega (arith, most .tables, s .room, e)
 
 -- what is as long is scratch too
-pub scratch-kept : {c : Counts} {keys w v keys′ w′ v′ : List ℕ} → Scratch c keys w v → length keys′ ≡ length keys → length w′ ≡ length w → length v′ ≡ length v → Scratch c keys′ w′ v′
-scratch-kept s e f g = record { most = s .most; few = s .few; room = rw e (s .room); places = rw f (s .places); spare = rw g (s .spare) }
+pub scratch-kept : {c : Counts} {keys w v u keys′ w′ v′ : List ℕ} → Scratch c keys w v u → length keys′ ≡ length keys → length w′ ≡ length w → length v′ ≡ length v → Scratch c keys′ w′ v′ u
+scratch-kept s e f g = record { most = s .most; few = s .few; room = rw e (s .room); places = rw f (s .places); spare = rw g (s .spare); starts = s .starts }

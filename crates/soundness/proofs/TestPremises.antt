@@ -150,7 +150,6 @@ module _ (w : Words) (c : Counts) (room : within c (capacity w) ≡ true) where
         let k = held w c room in
         record {
           dataFilesById = found .dataFiles;
-          fewDeleteFiles = k .deleteFilesMost;
           positionsWithin = record { lent = k .deleteFiles; within = omega (arith, eqb-true (positionsBefore (w .deleteFiles) (c .«delete_files»)) (c .positions) summed, k .positions, k .positionsMost) };
           lives = delete-files-live w c lives;
         }
@@ -158,7 +157,6 @@ module _ (w : Words) (c : Counts) (room : within c (capacity w) ≡ true) where
     pub row-ranges-checkable : fieldsInRange (load w c) ≡ true → RowRangesCheckable (w .tables) (w .dataFiles) c
     row-ranges-checkable fields = record {
       tablesById = found .tables;
-      fewTables = held w c room .tablesMost;
       dataFilesLent = held w c room .dataFiles;
       inRange = data-files-in-range w c fields;
     }

@@ -21,13 +21,14 @@ abbrev pub noneAbove : Counts → ℕ → Bool
 noneAbove c most =
     leb (c .schemas) most && leb (c .tables) most && leb (c .columns) most && leb (c .«data_files») most && leb (c .«delete_files») most && leb (c .scheduled) most
 
--- keys of six words for each record of a table, or of two for each record of three, and as many places, twice
-pub record Scratch (counts : Counts) (keys w v : List ℕ) : Type 0 where
+-- keys of six words for each record of a table, or of two for each record of three, as many places, twice, and a place for each record of one
+pub record Scratch (counts : Counts) (keys w v u : List ℕ) : Type 0 where
   pub most : ℕ
   pub few : noneAbove counts most ≡ true
   pub room : 6 * most ≤ length keys
   pub places : 3 * most ≤ length w
   pub spare : 3 * most ≤ length v
+  pub starts : most ≤ length u
 
 -- the tests of each record by itself hold
 pub record RecordsHold (w : Words) (c : Counts) : Type 0 where

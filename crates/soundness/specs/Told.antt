@@ -4,7 +4,7 @@ use mathlib.Core.Path.{_≡_}
 use mathlib.Core.Bool.{_&&_}
 use Rattle.layout.specs.declared.outcome.Counts.{Counts}
 use Rattle.layout.specs.Words.{Words, load}
-use Rattle.ducklake.specs.Soundness.{filesDistinct, namesApart, positionsAddUp, deletesSound, firstUnsound}
+use Rattle.ducklake.specs.Soundness.{filesDistinct, namesApart, positionsAddUp, deletesSound, rowRangesSound, firstUnsound}
 use Rattle.soundness.specs.declared.relations.Compared.{Compared}
 use Rattle.soundness.specs.Scratch.{RecordsHold}
 
@@ -18,3 +18,4 @@ pub record Compares (w : Words) (c : Counts) (r : Compared) : Type 0 where
   pub distinct : r .distinct ≡ filesDistinct (load w c)
   pub apart : r .apart ≡ namesApart (load w c)
   pub deletes : r .deletes ≡ (positionsAddUp w c && deletesSound (load w c))
+  pub rows : r .rows ≡ rowRangesSound (load w c)

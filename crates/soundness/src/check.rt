@@ -55,6 +55,7 @@ fn unsound_by(
     keys: &mut [u64],
     w: &mut [usize],
     v: &mut [usize],
+    u: &mut [usize],
     hints: &mut [u16],
     of_tables: &mut [u16],
     of_columns: &mut [u16],
@@ -64,7 +65,7 @@ fn unsound_by(
 ) -> u64
     requires { ⌜ (within counts (capacity (lentNow snapshots schemas «schema_names» tables «table_names» columns «column_names»
         «data_files» «delete_files» positions statistics scheduled)) ≡ true)
-        × Scratch counts (now keys) (now w) (now v) ⌝ }
+        × Scratch counts (now keys) (now w) (now v) (now u) ⌝ }
     ensures { λ r. ⌜ r ≡ firstUnsound (atEntry snapshots schemas «schema_names» tables «table_names» columns «column_names»
         «data_files» «delete_files» positions statistics scheduled) counts ⌝ }
 {
@@ -123,10 +124,12 @@ fn unsound_by(
         statistics,
         scheduled,
         counts,
+        of_data_files,
         of_delete_files,
         keys,
         w,
         v,
+        u,
     );
     relations_unsound(
         snapshots,
@@ -176,6 +179,7 @@ fn few_unsound(
     let mut keys = [0u64; 6 * FEW_RECORDS];
     let mut w = [0usize; 3 * FEW_RECORDS];
     let mut v = [0usize; 3 * FEW_RECORDS];
+    let mut u = [0usize; FEW_RECORDS];
     let mut hints = [0u16; HINTS * FEW_RECORDS];
     let mut of_tables = [0u16; FEW_RECORDS];
     let mut of_columns = [0u16; FEW_RECORDS];
@@ -199,6 +203,7 @@ fn few_unsound(
         &mut keys,
         &mut w,
         &mut v,
+        &mut u,
         &mut hints,
         &mut of_tables,
         &mut of_columns,
@@ -232,6 +237,7 @@ fn some_unsound(
     let mut keys = [0u64; 6 * SOME_RECORDS];
     let mut w = [0usize; 3 * SOME_RECORDS];
     let mut v = [0usize; 3 * SOME_RECORDS];
+    let mut u = [0usize; SOME_RECORDS];
     let mut hints = [0u16; HINTS * SOME_RECORDS];
     let mut of_tables = [0u16; SOME_RECORDS];
     let mut of_columns = [0u16; SOME_RECORDS];
@@ -255,6 +261,7 @@ fn some_unsound(
         &mut keys,
         &mut w,
         &mut v,
+        &mut u,
         &mut hints,
         &mut of_tables,
         &mut of_columns,
@@ -288,6 +295,7 @@ fn all_unsound(
     let mut keys = [0u64; 6 * TABLE_LIMIT];
     let mut w = [0usize; 3 * TABLE_LIMIT];
     let mut v = [0usize; 3 * TABLE_LIMIT];
+    let mut u = [0usize; TABLE_LIMIT];
     let mut hints = [0u16; HINTS * TABLE_LIMIT];
     let mut of_tables = [0u16; TABLE_LIMIT];
     let mut of_columns = [0u16; TABLE_LIMIT];
@@ -311,6 +319,7 @@ fn all_unsound(
         &mut keys,
         &mut w,
         &mut v,
+        &mut u,
         &mut hints,
         &mut of_tables,
         &mut of_columns,

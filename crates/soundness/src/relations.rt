@@ -29,9 +29,10 @@ pub struct Compared {
     pub distinct: bool,
     pub apart: bool,
     pub deletes: bool,
+    pub rows: bool,
 }
 
-// Whether positions add up, and delete files are sound; keys, w and v are scratch.
+// Whether positions add up, and delete files are sound; keys, w, v and u are scratch.
 fn deletes_add_up(
     snapshots: &[u64],
     schemas: &[u64],
@@ -50,10 +51,11 @@ fn deletes_add_up(
     keys: &mut [u64],
     w: &mut [usize],
     v: &mut [usize],
+    u: &mut [usize],
 ) -> bool
     requires { ⌜ RecordsHold (lentNow snapshots schemas «schema_names» tables «table_names» columns «column_names»
         «data_files» «delete_files» positions statistics scheduled) counts
-        × Scratch counts (now keys) (now w) (now v) ⌝ }
+        × Scratch counts (now keys) (now w) (now v) (now u) ⌝ }
     ensures { λ r. ⌜ r ≡ (positionsAddUp (atEntry snapshots schemas «schema_names» tables «table_names» columns «column_names»
         «data_files» «delete_files» positions statistics scheduled) counts
         && deletesSound (load (atEntry snapshots schemas «schema_names» tables «table_names» columns «column_names»
@@ -72,10 +74,11 @@ fn deletes_add_up(
         keys,
         w,
         v,
+        u,
     )
 }
 
-// Makes these tests, none of which relies on another; keys, w and v are scratch.
+// Makes these tests, none of which relies on another; keys, w, v and u are scratch.
 pub fn compare(
     snapshots: &[u64],
     schemas: &[u64],
@@ -90,14 +93,16 @@ pub fn compare(
     statistics: &[u64],
     scheduled: &[u64],
     counts: Counts,
+    of_data_files: &[u16],
     of_delete_files: &[u16],
     keys: &mut [u64],
     w: &mut [usize],
     v: &mut [usize],
+    u: &mut [usize],
 ) -> Compared
     requires { ⌜ RecordsHold (lentNow snapshots schemas «schema_names» tables «table_names» columns «column_names»
         «data_files» «delete_files» positions statistics scheduled) counts
-        × Scratch counts (now keys) (now w) (now v) ⌝ }
+        × Scratch counts (now keys) (now w) (now v) (now u) ⌝ }
     ensures { λ r. ⌜ Compares (atEntry snapshots schemas «schema_names» tables «table_names» columns «column_names»
         «data_files» «delete_files» positions statistics scheduled) counts r ⌝ }
 {
@@ -132,11 +137,14 @@ pub fn compare(
         keys,
         w,
         v,
+        u,
     );
+    let rows = row_ranges_sound(tables, data_files, counts, of_data_files, keys);
     Compared {
         distinct,
         apart,
         deletes,
+        rows,
     }
 }
 
@@ -193,8 +201,7 @@ pub fn relations_unsound(
     if !compared.deletes {
         return DELETES_LINE;
     }
-    let rows = row_ranges_sound(tables, data_files, counts, of_data_files);
-    if !rows {
+    if !compared.rows {
         return ROWS_LINE;
     }
     let covered = statistics_sound(

@@ -1,23 +1,24 @@
 -- Row ranges. Where each of a table's files starts at or above the end of the one before, it starts above all earlier ones, so a pass that notes
 -- where the rows of each table end compares enough.
-use Prim.Native.Nat.{ℕ, _+_, _≤_, _<_}
-use mathlib.Core.Path.{_≡_, sym, ap, _∙_}
+use Prim.Native.Nat.{ℕ, _+_, _-_, _≤_, _<_}
+use mathlib.Core.Path.{_≡_, sym, ap, ap₂, _∙_}
 use mathlib.Core.Bool.{Bool, true, false, not, _&&_, _||_}
 use mathlib.Core.List.{List, []}
 use native.Mathlib.Omega.{arith}
 use borrow.Author.Tests.{leb-true, le-leb, lt-leb, eqb-true, eq-eqb}
 use lib.Dec.{leb, eqb}
-use lib.ListN.{length, getD, set, replicate}
+use lib.ListN.{length, getD, set, take, replicate, length-replicate}
 use mir.Syntax.{w64}
 use mir.Val.{Fits}
 use Rattle.lists.specs.declared.Found.{Found}
 use Rattle.lists.specs.declared.Found.the-variants.{At, Nothing}
 use Rattle.lists.specs.Lists.{range, all, pairwise, has}
-use Rattle.lists.specs.Runs.{at, field, fields}
+use Rattle.lists.specs.Runs.{at, field, fields, overwrite}
 use Rattle.lists.proofs.Members.{any-in, in-any, in-map, in-map-of}
 use Rattle.lists.proofs.Memory.{remembered, remembered-start, remembered-pass, remembered-fail, remembered-end}
 use Rattle.lists.proofs.Places as places
 use Rattle.lists.proofs.Places.{any-nowhere, placeIn, same-place, all-at, has-place, isAt, found-tells}
+use Rattle.lists.proofs.Runs.{overwrite-front}
 use Rattle.lists.proofs.Search.{any-found}
 use Rattle.lists.proofs.Tests.{both, clash}
 use Rattle.lists.proofs.Windows.{getD-padded}
@@ -26,7 +27,7 @@ use Rattle.layout.specs.declared.record.DataFileRecord.{DataFileRecord}
 use Rattle.layout.specs.Catalog.{numberLimit, recordCountLimit, Versioned, Table, DataFile, dataFileOf}
 use Rattle.layout.specs.Fields.{tableSize, tableIdWord}
 use Rattle.layout.specs.Records.{tableLayout, dataFileLayout}
-use Rattle.layout.specs.Words.{tableLimit, tableAt, tablesIn, dataFileAt, dataFilesIn}
+use Rattle.layout.specs.Words.{tableAt, tablesIn, dataFileAt, dataFilesIn}
 use Rattle.ducklake.specs.Soundness.{isRecordCount, dataFileInRange, rowIdEnd, rowsInTable, rowsBefore}
 use Rattle.lookup.specs.Order.{TablesById, placeOf}
 use Rattle.soundness_deletes.specs.Rows.{RowRangesCheckable}
@@ -84,6 +85,16 @@ module _ (tables : List ℕ) (n : ℕ) (files : List ℕ) (m : ℕ) where
   unfolding ascend
   ascend-end = remembered-end m keyAt (endAt files) (past files) (later files m)
 
+-- the first n notes, once they were cleared
+pub cleared : (w : List ℕ) (n : ℕ) {v : List ℕ} → v ≡ overwrite w 0 (replicate (n - 0) 0) → take (n - 0) v ≡ replicate n 0
+cleared w n e = ap₂ take long e ∙ (overwrite-front w 0 (replicate (n - 0) 0) (omega arith) ∙ ap (λ (k : ℕ). replicate k 0) whole)
+  where
+    long : n - 0 ≡ 0 + length {A = ℕ} (replicate (n - 0) 0)
+    long = omega (arith, length-replicate {A = ℕ} (n - 0) 0)
+
+    whole : n - 0 ≡ n
+    whole = omega arith
+
 -- rows that lie in their tables have tables on record
 module _ {tables files : List ℕ} {counts : Counts} (p : RowRangesCheckable tables files counts)
     (e : (names : List ℕ) → all (rowsInTable (tablesIn tables names (counts .tables))) (dataFilesIn files (counts .«data_files»)) ≡ true) where
@@ -102,12 +113,12 @@ module _ {tables files : List ℕ} {counts : Counts} (p : RowRangesCheckable tab
       in-any (eqb x) (in-map (field tableSize tableIdWord tables) (j .1))
       (eq-eqb x (field tableSize tableIdWord tables (j .0)) (sym (ap (λ v. v .id) (sym (j .2)) ∙ eqb-true _ _ (both (eqb (t .0 .id) x) _ (t .2) .0))))
 
-  pub ascend-start : (k : ℕ) → pairwise rowsBefore (dataFilesIn files m) ≡ ascend tables n files m (replicate k 0) 0
+  pub ascend-start : {ends : List ℕ} → ends ≡ replicate n 0 → pairwise rowsBefore (dataFilesIn files m) ≡ ascend tables n files m ends 0
   unfolding ascend rowsBefore
-  ascend-start k =
-      remembered-start m (keyAt tables n files m) (endAt files) (past files) (later files m) rowsBefore (dataFileAt files) (replicate k 0)
+  ascend-start z = rw z
+      (remembered-start m (keyAt tables n files m) (endAt files) (past files) (later files m) rowsBefore (dataFileAt files) (replicate n 0)
       (λ i j a b. ap (λ q. not q || past files (endAt files i) j) (same-place (field tableSize tableIdWord tables) n _ _ (table-there i a) (table-there j b)))
-      (λ j. getD-padded 0 [] k j) (λ j. le-leb 0 (startAt files j) (omega arith))
+      (λ j. getD-padded 0 [] n j) (λ j. le-leb 0 (startAt files j) (omega arith)))
 
   -- the turn i, with the file that was read and what the search for its table gave
   module _ {file : DataFileRecord} {r : Found} {i : ℕ} (l : i < m) (v : file ≡ at dataFileLayout files i) (f : r ≡ placeOf tableSize tableIdWord tables n (file .table .0)) where
@@ -119,8 +130,8 @@ module _ {tables files : List ℕ} {counts : Counts} (p : RowRangesCheckable tab
 
     module _ {j : ℕ} (g : r ≡ At j) where
       -- its table has a place among the notes
-      pub slot : j < tableLimit
-      slot = omega (arith, found-tells (field tableSize tableIdWord tables) _ n f g, p .fewTables)
+      pub slot : j < n
+      slot = found-tells (field tableSize tableIdWord tables) _ n f g .0
 
       key-is : keyAt tables n files m i ≡ j
       key-is = ap (placeIn (fields tableSize tableIdWord tables n)) (sym table-is) ∙ ap places.placeOf (sym f ∙ g)

@@ -10,7 +10,7 @@ use Rattle.lists.specs.Runs.{field}
 use Rattle.layout.specs.declared.outcome.Counts.{Counts}
 use Rattle.layout.specs.Catalog.{Versioned, DeleteFile}
 use Rattle.layout.specs.Fields.{deleteFileSize, deleteFileDataFileWord, deleteFileBeginWord}
-use Rattle.layout.specs.Words.{tableLimit, positionLimit, deleteFileAt, deleteFilesIn}
+use Rattle.layout.specs.Words.{positionLimit, deleteFileAt, deleteFilesIn}
 use Rattle.ducklake.specs.Soundness.{deleteFilesApart}
 use Rattle.lookup.specs.Order.{DataFilesById}
 use Rattle.lookup.specs.Positions.{PositionsWithin, PositionsLocated, PositionsFrom}
@@ -30,7 +30,6 @@ apartAt run positions i j = deleteFilesApart (deleteFileAt run positions i) (del
 -- data files by id, delete files whose positions are lent and within the limit, and lives that are not empty
 pub record DeletesCheckable (dataFiles deleteFiles positions : List ℕ) (counts : Counts) : Type 0 where
   pub dataFilesById : DataFilesById dataFiles (counts .«data_files»)
-  pub fewDeleteFiles : counts .«delete_files» ≤ tableLimit
   pub positionsWithin : PositionsWithin deleteFiles (counts .«delete_files») (min positionLimit (length positions))
   pub lives : all beginsBeforeEnd (deleteFilesIn deleteFiles positions (counts .«delete_files»)) ≡ true
 

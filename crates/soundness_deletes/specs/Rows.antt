@@ -7,13 +7,12 @@ use lib.ListN.{length}
 use Rattle.lists.specs.Lists.{all}
 use Rattle.layout.specs.declared.outcome.Counts.{Counts}
 use Rattle.layout.specs.Fields.{dataFileSize}
-use Rattle.layout.specs.Words.{tableLimit, dataFilesIn}
+use Rattle.layout.specs.Words.{dataFilesIn}
 use Rattle.ducklake.specs.Soundness.{dataFileInRange}
 use Rattle.lookup.specs.Order.{TablesById}
 
 -- tables by id, and data files whose row numbers and record counts are in range
 pub record RowRangesCheckable (tables dataFiles : List ℕ) (counts : Counts) : Type 0 where
   pub tablesById : TablesById tables (counts .tables)
-  pub fewTables : counts .tables ≤ tableLimit
   pub dataFilesLent : dataFileSize * counts .«data_files» ≤ length dataFiles
   pub inRange : all dataFileInRange (dataFilesIn dataFiles (counts .«data_files»)) ≡ true

@@ -11,7 +11,6 @@ ghost use Rattle.ducklake.specs.Soundness.{succeededBy, deleteFilesApart, posit
 ghost use Rattle.lookup.specs.Order.{DataFilesById};
 ghost use Rattle.lookup.specs.Positions.{PositionsLocated};
 ghost use Rattle.soundness_deletes.specs.Deletes.{apartAt, DeletesCheckable, DeletesComparable, DeletesKeyed, DeletesSortable, PositionsComparable, PositionsComparableAt};
-use layout::number::TABLE_LIMIT;
 use layout::outcome::Counts;
 use layout::record::DeleteFileRecord;
 use lists::Found;
@@ -242,7 +241,7 @@ fn delete_files_apart_by(
     )
 }
 
-// Of each delete file there is the place where its data file most likely is; keys, w and v are scratch.
+// Of each delete file there is the place where its data file most likely is; keys, w, v and starts are scratch.
 pub fn deletes_sound(
     data_files: &[u64],
     delete_files: &[u64],
@@ -252,20 +251,20 @@ pub fn deletes_sound(
     keys: &mut [u64],
     w: &mut [usize],
     v: &mut [usize],
+    starts: &mut [usize],
 ) -> bool
     requires { ⌜ DeletesCheckable (now «data_files») (now «delete_files») (now positions) counts × (2 * counts .«delete_files» ≤ length (now keys))
-        × (counts .«delete_files» ≤ length (now w)) × (counts .«delete_files» ≤ length (now v)) ⌝ }
+        × (counts .«delete_files» ≤ length (now w)) × (counts .«delete_files» ≤ length (now v)) × (counts .«delete_files» ≤ length (now starts)) ⌝ }
     ensures { λ r. ⌜ ((w : Words) → w .dataFiles ≡ now («data_files» .entry) → w .deleteFiles ≡ now («delete_files» .entry)
         → w .positions ≡ now (positions .entry) → r ≡ deletesSound (load w counts)) ⌝ }
 {
-    let mut starts = [0usize; TABLE_LIMIT];
-    position_starts(delete_files, counts.delete_files, &mut starts);
+    position_starts(delete_files, counts.delete_files, starts);
     let ok = all_positions_sound(
         data_files,
         counts.data_files,
         delete_files,
         positions,
-        &starts,
+        starts,
         counts.delete_files,
         places,
     );
@@ -276,7 +275,7 @@ pub fn deletes_sound(
     delete_files_apart_by(
         delete_files,
         positions,
-        &starts,
+        starts,
         n,
         keys,
         &mut w[0..n],

@@ -1,7 +1,8 @@
 ghost use mathlib.Core.Path.{_≡_};
 ghost use mathlib.Core.Bool.{true};
 ghost use mathlib.Core.List.{List};
-ghost use Prim.Native.Nat.{ℕ};
+ghost use Prim.Native.Nat.{ℕ, _≤_};
+ghost use lib.ListN.{length, replicate};
 ghost use Rattle.lists.specs.Lists.{all, pairwise};
 ghost use Rattle.layout.specs.Catalog.{dataFileOf};
 ghost use Rattle.layout.specs.Words.{Words, load, tablesIn, dataFilesIn};
@@ -9,7 +10,6 @@ ghost use Rattle.ducklake.specs.Soundness.{dataFileInRange, rowIdEnd, rowsBefor
 ghost use Rattle.lookup.specs.Order.{TablesById};
 ghost use Rattle.soundness_deletes.specs.Rows.{RowRangesCheckable};
 use layout::number::RowId;
-use layout::number::TABLE_LIMIT;
 use layout::outcome::Counts;
 use layout::record::DataFileRecord;
 use lists::Found;
@@ -17,6 +17,7 @@ use lookup::find::find_table_near;
 use records::data_file::data_file_at;
 use records::table::table_next_row_id;
 use runs::hints::place_at;
+use runs::kept_words::clear_words;
 
 // The row number after the last of a file.
 fn row_id_end(file: DataFileRecord) -> RowId
@@ -60,14 +61,21 @@ fn all_rows_in_tables(tables: &[u64], data_files: &[u64], counts: Counts, places
     true
 }
 
-// Whether the rows of a table's files ascend with the file id and don't overlap: in one pass that notes, for each table, where its rows end.
-fn rows_ascend(tables: &[u64], data_files: &[u64], counts: Counts, places: &[u16]) -> bool
+// Whether the rows of a table's files ascend with the file id and don't overlap: in one pass that notes, for each table, where its rows end;
+// none do at first.
+fn rows_ascend(
+    tables: &[u64],
+    data_files: &[u64],
+    counts: Counts,
+    places: &[u16],
+    ends: &mut [u64],
+) -> bool
     requires { ⌜ RowRangesCheckable (now tables) (now «data_files») counts
         × ((names : List ℕ)
-        → all (rowsInTable (tablesIn (now tables) names (counts .tables))) (dataFilesIn (now «data_files») (counts .«data_files»)) ≡ true) ⌝ }
+        → all (rowsInTable (tablesIn (now tables) names (counts .tables))) (dataFilesIn (now «data_files») (counts .«data_files»)) ≡ true)
+        × (now ends ≡ replicate (counts .tables) 0) ⌝ }
     ensures { λ r. ⌜ r ≡ pairwise rowsBefore (dataFilesIn (now («data_files» .entry)) (counts .«data_files»)) ⌝ }
 {
-    let mut ends = [0u64; TABLE_LIMIT];
     let mut i: usize = 0;
     while i < counts.data_files {
         let file = data_file_at(data_files, i);
@@ -86,10 +94,16 @@ fn rows_ascend(tables: &[u64], data_files: &[u64], counts: Counts, places: &[u16
     true
 }
 
-// Of each file there is the place where its table most likely is.
+// Of each file there is the place where its table most likely is; the ends are scratch.
 // "row ranges of a table's files ascend with the file id, don't overlap, and end at or below next_row_id"
-pub fn row_ranges_sound(tables: &[u64], data_files: &[u64], counts: Counts, places: &[u16]) -> bool
-    requires { ⌜ RowRangesCheckable (now tables) (now «data_files») counts ⌝ }
+pub fn row_ranges_sound(
+    tables: &[u64],
+    data_files: &[u64],
+    counts: Counts,
+    places: &[u16],
+    ends: &mut [u64],
+) -> bool
+    requires { ⌜ RowRangesCheckable (now tables) (now «data_files») counts × (counts .tables ≤ length (now ends)) ⌝ }
     ensures { λ r. ⌜ ((w : Words) → w .tables ≡ now (tables .entry) → w .dataFiles ≡ now («data_files» .entry)
         → r ≡ rowRangesSound (load w counts)) ⌝ }
 {
@@ -97,5 +111,7 @@ pub fn row_ranges_sound(tables: &[u64], data_files: &[u64], counts: Counts, plac
     if !ok {
         return false;
     }
-    rows_ascend(tables, data_files, counts, places)
+    let n = counts.tables;
+    clear_words(ends, 0, n);
+    rows_ascend(tables, data_files, counts, places, &mut ends[0..n])
 }

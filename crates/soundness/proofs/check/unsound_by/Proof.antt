@@ -44,28 +44,28 @@ relations-unsound-requires c κs =
     (e .before .records-unsound .ensures .passes (e .if1 .left), m .compare .ensures)
 
 -- the hints, through both that write them
-same-length-5 : tie.Need-same-length-5
-same-length-5 c =
+same-length-6 : tie.Need-same-length-6
+same-length-6 c =
     let l = located search in
     let f : tie.After-fill-hints = filled (told l) in
     l .locate-references .kept .1 .1 .1 .1 .1 .1 .0 ∙ f .fill-hints .kept .1 .1 .1 .1 .0
 
-same-length-6 : tie.Need-same-length-6
-same-length-6 c = (located search) .locate-references .kept .1 .1 .1 .1 .1 .1 .1 .0
-
 same-length-7 : tie.Need-same-length-7
-same-length-7 c = (located search) .locate-references .kept .1 .1 .1 .1 .1 .1 .1 .1 .0
+same-length-7 c = (located search) .locate-references .kept .1 .1 .1 .1 .1 .1 .1 .0
 
 same-length-8 : tie.Need-same-length-8
-same-length-8 c = (located search) .locate-references .kept .1 .1 .1 .1 .1 .1 .1 .1 .1 .0
+same-length-8 c = (located search) .locate-references .kept .1 .1 .1 .1 .1 .1 .1 .1 .0
 
 same-length-9 : tie.Need-same-length-9
-same-length-9 c = (located search) .locate-references .kept .1 .1 .1 .1 .1 .1 .1 .1 .1 .1 .0
+same-length-9 c = (located search) .locate-references .kept .1 .1 .1 .1 .1 .1 .1 .1 .1 .0
 
 same-length-10 : tie.Need-same-length-10
-same-length-10 c = (located search) .locate-references .kept .1 .1 .1 .1 .1 .1 .1 .1 .1 .1 .1 .0
+same-length-10 c = (located search) .locate-references .kept .1 .1 .1 .1 .1 .1 .1 .1 .1 .1 .0
+
+same-length-11 : tie.Need-same-length-11
+same-length-11 c = (located search) .locate-references .kept .1 .1 .1 .1 .1 .1 .1 .1 .1 .1 .1 .0
 
 pub unsound-by-spec : {M : Type 1} → statement M
 unsound-by-spec =
     tie.close
-    (tie.spec fill-hints-requires (λ c κs. search needs) (λ c. search needs) returns locate-references-requires compare-requires relations-unsound-requires (λ c. search needs) (λ c. search needs) (λ c. search needs) same-length-5 same-length-6 same-length-7 same-length-8 same-length-9 same-length-10 (λ c. search needs))
+    (tie.spec fill-hints-requires (λ c κs. search needs) (λ c. search needs) returns locate-references-requires compare-requires relations-unsound-requires (λ c. search needs) (λ c. search needs) (λ c. search needs) (λ c. search needs) same-length-6 same-length-7 same-length-8 same-length-9 same-length-10 same-length-11 (λ c. search needs))

@@ -32,7 +32,7 @@ deletes-sound-requires c κs =
     let s : tie.Start = search in
     let r = s .pre .0 in
     let d = deletes-scratch (s .pre .1) in
-    (deletes-checkable _ _ (r .room) (r .ascend) (r .lives) (passed (summed search) search), d .0, d .1, d .2)
+    (deletes-checkable _ _ (r .room) (r .ascend) (r .lives) (passed (summed search) search), d .0, d .1, d .2, d .3)
 
 returns-2 : tie.Need-returns-2
 returns-2 c =
@@ -42,4 +42,4 @@ returns-2 c =
 pub deletes-add-up-spec : {M : Type 1} → statement M
 deletes-add-up-spec =
     tie.close
-    (tie.spec positions-add-up-requires returns deletes-sound-requires (λ c. search needs) (λ c. search needs) (λ c. search needs) returns-2)
+    (tie.spec positions-add-up-requires returns deletes-sound-requires (λ c. search needs) (λ c. search needs) (λ c. search needs) (λ c. search needs) returns-2)

@@ -6,11 +6,11 @@ use Rattle.lists.proofs.Tests.{passed, failed, and}
 use Rattle.layout.specs.declared.outcome.Counts.{Counts}
 use Rattle.layout.specs.Catalog.{Catalog}
 use Rattle.layout.specs.Words.{Words, load}
-use Rattle.ducklake.specs.Soundness.{livesNest, rowRangesSound, statisticsSound, columnCountsSound, firstUnsound}
+use Rattle.ducklake.specs.Soundness.{livesNest, statisticsSound, columnCountsSound, firstUnsound}
 use Rattle.soundness.specs.Scratch.{RecordsHold}
 use Rattle.soundness.specs.Told.{Compares}
 use Rattle.soundness.proofs.Lines.{Left, all-left, stops, goes-on, ends, by-second}
-use Rattle.soundness.proofs.TestPremises.{nestable, row-ranges-checkable, statistics-checkable, tables-and-columns}
+use Rattle.soundness.proofs.TestPremises.{nestable, statistics-checkable, tables-and-columns}
 use Rattle.soundness.proofs.relations.relations_unsound.Statement.{statement}
 use Rattle.soundness.proofs.relations.relations_unsound.Tie as tie
 
@@ -31,7 +31,7 @@ records : (s : tie.Start) → RecordsHold (lent s) (counts s)
 records s = s .pre .0
 
 -- a place further back than a search goes from the last tests
-abbrev begun : tie.After-row-ranges-sound → tie.Start
+abbrev begun : tie.Else4 → tie.Start
 begun c = search
 
 -- what each test tells
@@ -41,9 +41,6 @@ compared s = s .pre .1
 
 nest : (c : tie.After-lives-nest) → c .lives-nest .result ≡ livesNest (catalog search)
 nest c = c .lives-nest .ensures _ refl refl refl refl refl
-
-rows : (c : tie.After-row-ranges-sound) → c .row-ranges-sound .result ≡ rowRangesSound (catalog search)
-rows c = c .row-ranges-sound .ensures _ refl refl
 
 covered : (c : tie.After-statistics-sound) → c .statistics-sound .result ≡ statisticsSound (catalog search)
 covered c = c .statistics-sound .ensures _ refl refl refl
@@ -70,11 +67,11 @@ at-names c = goes-on (at-nesting search) (passed (nest search) search)
 abbrev at-deletes : (c : tie.Else3) → LinesLeft search
 at-deletes c = goes-on (at-names search) (passed ((compared search) .apart) search)
 
-abbrev at-rows : (c : tie.After-row-ranges-sound) → LinesLeft search
+abbrev at-rows : (c : tie.Else4) → LinesLeft search
 at-rows c = goes-on (at-deletes search) (passed ((compared search) .deletes) search)
 
 abbrev at-statistics : (c : tie.After-statistics-sound) → LinesLeft search
-at-statistics c = goes-on (at-rows search) (passed (rows search) search)
+at-statistics c = goes-on (at-rows search) (passed ((compared search) .rows) search)
 
 abbrev at-columns : (c : tie.After-column-counts-sound) → LinesLeft (begun search)
 at-columns c = goes-on (at-statistics search) (passed (covered search) search)
@@ -88,8 +85,7 @@ relations-unsound-spec =
     (λ c. stops (at-nesting search) (failed (nest search) search))
     (λ c. stops (at-names search) (failed ((compared search) .apart) search))
     (λ c. stops (at-deletes search) (failed ((compared search) .deletes) search))
-    (λ c κs. let r = records search in row-ranges-checkable _ _ (r .room) (r .ascend) (r .fields))
-    (λ c. stops (at-rows search) (failed (rows search) search))
+    (λ c. stops (at-rows search) (failed ((compared search) .rows) search))
     (λ c κs. let r = records search in statistics-checkable _ _ (r .room) (r .ascend))
     (λ c. stops (at-statistics search) (failed (covered search) search))
     (λ c κs. let r = records (begun search) in tables-and-columns _ _ (r .room) (r .ascend))
