@@ -3,7 +3,7 @@ ghost use mathlib.Core.Path.{_≡_};
 ghost use mathlib.Core.Bool.{_&&_};
 ghost use Rattle.layout.specs.Lent.{atEntry, lentNow};
 ghost use Rattle.layout.specs.Words.{load};
-ghost use Rattle.ducklake.specs.Soundness.{filesDistinct, namesApart, positionsAddUp, deletesSound, firstUnsound};
+ghost use Rattle.ducklake.specs.Soundness.{positionsAddUp, deletesSound, firstUnsound};
 ghost use Rattle.soundness.specs.Scratch.{RecordsHold, Scratch};
 ghost use Rattle.soundness.specs.Told.{Compares};
 use crate::line::COLUMNS_LINE;

@@ -1,9 +1,9 @@
 -- What the check of deletes relies on, and how it compares delete files.
 use Prim.Native.Nat.{ℕ, _*_, _≤_, _<_, min}
 use mathlib.Core.Path.{_≡_}
-use mathlib.Core.Bool.{Bool, true}
+use mathlib.Core.Bool.{Bool, true, _&&_}
 use mathlib.Core.List.{List}
-use lib.Dec.{ltb}
+use lib.Dec.{ltb, eqb}
 use lib.ListN.{length, getD}
 use Rattle.lists.specs.Lists.{all, chained}
 use Rattle.lists.specs.Runs.{field}
@@ -59,8 +59,13 @@ pub record DeletesSortable (run positions starts : List ℕ) (n : ℕ) (keys w v
 abbrev pub deleteKeySize : ℕ
 deleteKeySize = 2
 
--- keys of n delete files: the data file, the begin
-pub record DeletesKeyed (run : List ℕ) (n : ℕ) (keys : List ℕ) : Type 0 where
-  pub room : 2 * n ≤ length keys
-  pub dataFiles : (i : ℕ) → i < n → field deleteKeySize 0 keys i ≡ field deleteFileSize deleteFileDataFileWord run i
-  pub begins : (i : ℕ) → i < n → field deleteKeySize 1 keys i ≡ field deleteFileSize deleteFileBeginWord run i
+-- whether a place is one of n, and has the key of the delete file there
+abbrev pub keyedAt : List ℕ → ℕ → List ℕ → ℕ → Bool
+keyedAt run n keys p =
+    ltb p n && eqb (field deleteKeySize 0 keys p) (field deleteFileSize deleteFileDataFileWord run p)
+    && eqb (field deleteKeySize 1 keys p) (field deleteFileSize deleteFileBeginWord run p)
+
+-- some of n delete files with their keys
+pub record DeletesKeyed (run : List ℕ) (n : ℕ) (keys places : List ℕ) : Type 0 where
+  pub room : deleteKeySize * n ≤ length keys
+  pub keyed : all (keyedAt run n keys) places ≡ true

@@ -24,6 +24,8 @@ use records::delete_file::delete_file_data_file;
 use runs::hints::place_at;
 use runs::subset::is_subset;
 use runs::words::words_ascend;
+use sorting::colliding::hash_fields;
+use sorting::colliding::keep_colliding;
 use sorting::colliding::thin;
 use sorting::keys::put_words;
 use sorting::sort::number;
@@ -157,16 +159,16 @@ fn neighbours_apart(
     true
 }
 
-// Keys of delete files: the data file, the begin.
-fn put_keys(delete_files: &[u64], n: usize, keys: &mut [u64])
-    requires { ⌜ (deleteFileSize * n ≤ length (now «delete_files»)) × (2 * n ≤ length (now keys)) ⌝ }
-    ensures { λ _. ⌜ DeletesKeyed (now («delete_files» .entry)) n (now (keys .exit)) ⌝ }
+// Keys of the delete files at those places: the data file, the begin.
+fn put_keys(delete_files: &[u64], n: usize, places: &[usize], keys: &mut [u64])
+    requires { ⌜ (deleteFileSize * n ≤ length (now «delete_files»)) × (2 * n ≤ length (now keys)) × (all (λ p. ltb p n) (now places) ≡ true) ⌝ }
+    ensures { λ _. ⌜ DeletesKeyed (now («delete_files» .entry)) n (now (keys .exit)) (now (places .entry)) ⌝ }
 {
     let size = DeleteFileRecord::SIZE;
     let data_file = DeleteFileRecord::DATA_FILE;
     let begin = DeleteFileRecord::BEGIN;
-    put_words(delete_files, size, data_file, n, keys, 2, 0, 0);
-    put_words(delete_files, size, begin, n, keys, 2, 1, 0);
+    put_words(delete_files, size, data_file, places, keys, 2, 0);
+    put_words(delete_files, size, begin, places, keys, 2, 1);
 }
 
 // Whether no two of the delete files at those places clash: by data file and begin, so that those that follow each other decide. v is scratch.
@@ -179,8 +181,8 @@ fn sorted_apart(
     w: &mut [usize],
     v: &mut [usize],
 ) -> bool
-    requires { ⌜ DeletesComparable (now «delete_files») (now positions) (now starts) n × DeletesKeyed (now «delete_files») n (now keys)
-        × (all (λ p. ltb p n) (now w) ≡ true) × (length (now v) ≡ length (now w)) ⌝ }
+    requires { ⌜ DeletesComparable (now «delete_files») (now positions) (now starts) n × DeletesKeyed (now «delete_files») n (now keys) (now w)
+        × (length (now v) ≡ length (now w)) ⌝ }
     ensures { λ r. ⌜ r ≡ pairwise (apartAt (now («delete_files» .entry)) (now (positions .entry))) (now (w .entry)) ⌝ }
 {
     sort(keys, 2, w, v);
@@ -197,8 +199,8 @@ fn places_apart(
     w: &mut [usize],
     v: &mut [usize],
 ) -> bool
-    requires { ⌜ DeletesComparable (now «delete_files») (now positions) (now starts) n × DeletesKeyed (now «delete_files») n (now keys)
-        × (all (λ p. ltb p n) (now w) ≡ true) × (length (now v) ≡ length (now w)) ⌝ }
+    requires { ⌜ DeletesComparable (now «delete_files») (now positions) (now starts) n × DeletesKeyed (now «delete_files») n (now keys) (now w)
+        × (length (now v) ≡ length (now w)) ⌝ }
     ensures { λ r. ⌜ r ≡ pairwise (apartAt (now («delete_files» .entry)) (now (positions .entry))) (now (w .entry)) ⌝ }
 {
     let r = thin(keys, 2, 1, true, w, v);
@@ -214,7 +216,7 @@ fn places_apart(
 }
 
 // "two delete files of one data file have no common live number; the later holds every position of the earlier": those whose data file no other
-// has, by the first hash, need no second. As many as w is long; keys, w and v are scratch.
+// has, by its last digits, need no keys. As many as w is long; keys, w and v are scratch.
 fn delete_files_apart_by(
     delete_files: &[u64],
     positions: &[u64],
@@ -227,9 +229,17 @@ fn delete_files_apart_by(
     requires { ⌜ DeletesSortable (now «delete_files») (now positions) (now starts) n (now keys) (now w) (now v) ⌝ }
     ensures { λ r. ⌜ r ≡ pairwise deleteFilesApart (deleteFilesIn (now («delete_files» .entry)) (now (positions .entry)) n) ⌝ }
 {
-    put_keys(delete_files, n, keys);
     number(w);
-    let r = thin(keys, 2, 1, false, w, v);
+    hash_fields(
+        delete_files,
+        DeleteFileRecord::SIZE,
+        DeleteFileRecord::DATA_FILE,
+        n,
+        v,
+        0,
+    );
+    let r = keep_colliding(v, w);
+    put_keys(delete_files, n, &w[..r], keys);
     places_apart(
         delete_files,
         positions,

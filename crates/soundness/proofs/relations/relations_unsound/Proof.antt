@@ -1,7 +1,5 @@
 -- `relations_unsound` meets its contract: the lines in their order, each test where those before it are passed.
-use borrow.Author.Needs.{needs}
-use mathlib.Core.Path.{_≡_, refl, ap, _∙_}
-use mathlib.Core.Bool.{true}
+use mathlib.Core.Path.{_≡_, refl}
 use Rattle.lists.proofs.Tests.{passed, failed, and}
 use Rattle.layout.specs.declared.outcome.Counts.{Counts}
 use Rattle.layout.specs.Catalog.{Catalog}

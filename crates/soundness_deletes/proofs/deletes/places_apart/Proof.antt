@@ -2,10 +2,9 @@
 use borrow.Author.Needs.{needs}
 use mathlib.Core.Path.{sym, _∙_}
 use native.Mathlib.Omega.{arith}
-use lib.Dec.{ltb}
 use lib.ListN.{length-take}
 use lib.Seq.{length-take-le}
-use Rattle.soundness_deletes.proofs.DeleteOrder.{places-keyed, apart-thinned}
+use Rattle.soundness_deletes.proofs.DeleteOrder.{places-keyed, keyed-thinned, apart-thinned}
 use Rattle.soundness_deletes.proofs.deletes.places_apart.Statement.{statement}
 use Rattle.soundness_deletes.proofs.deletes.places_apart.Tie as tie
 
@@ -13,7 +12,7 @@ thin-requires : tie.Need-thin-requires
 thin-requires c κs =
     let start : tie.Start = search in
     let p = start .pre in
-    (places-keyed (p .1) _ (p .2), omega arith, p .3)
+    (places-keyed (p .1), omega arith, p .2)
 
 slice-aggregate-sorted-apart : tie.Need-slice-aggregate-sorted-apart
 slice-aggregate-sorted-apart c =
@@ -26,7 +25,7 @@ slice-aggregate-sorted-apart-2 c =
     let thinned : tie.After-thin = search in
     let start : tie.Start = search in
     let t = thinned .thin in
-    sym (length-take-le _ (t .last .1 .1 .1 .1 .1 .0) (omega (arith, start .pre .3, t .kept .1 .1 .1 .1 .1 .0, t .ensures .1)))
+    sym (length-take-le _ (t .last .1 .1 .1 .1 .1 .0) (omega (arith, start .pre .2, t .kept .1 .1 .1 .1 .1 .0, t .ensures .1)))
 
 sorted-apart-requires : tie.Need-sorted-apart-requires
 sorted-apart-requires c κs =
@@ -34,7 +33,7 @@ sorted-apart-requires c κs =
     let start : tie.Start = search in
     let p = start .pre in
     let t = thinned .thin in
-    (p .0, p .1, t .ensures .2 .within (λ q. ltb q _) (p .2), simp length-take (omega (arith, p .3, t .kept .1 .1 .1 .1 .1 .0, t .ensures .0)))
+    (p .0, keyed-thinned (p .1) (t .ensures .2), simp length-take (omega (arith, p .2, t .kept .1 .1 .1 .1 .1 .0, t .ensures .0)))
 
 returns : tie.Need-returns
 returns c =
@@ -42,7 +41,7 @@ returns c =
     let thinned : tie.After-thin = search in
     let start : tie.Start = search in
     let p = start .pre in
-    decided .sorted-apart .ensures ∙ apart-thinned _ _ (p .1) _ _ (p .2) (thinned .thin .ensures .2)
+    decided .sorted-apart .ensures ∙ apart-thinned _ _ _ _ (p .1) (thinned .thin .ensures .2)
 
 pub places-apart-spec : {M : Type 1} → statement M
 places-apart-spec =
