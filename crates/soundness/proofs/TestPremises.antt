@@ -112,17 +112,6 @@ module _ (w : Words) (c : Counts) (room : within c (capacity w) ≡ true) where
   pub files-lent : FilesLent (w .dataFiles) (w .deleteFiles) (w .scheduled) c
   files-lent = let k = held w c room in record { dataFilesLent = k .dataFiles; deleteFilesLent = k .deleteFiles; scheduledLent = k .scheduled }
 
-  pub numbered : snapshotsRise (load w c .snapshots) ≡ true → Numbered (w .snapshots) (w .schemas) (w .tables) (w .dataFiles) (w .deleteFiles) (w .scheduled) c
-  numbered rise =
-      let k = held w c room in
-      record {
-        snapshotsLent = k .snapshots;
-        latest = snapshots-by-id rise .0;
-        schemasLent = k .schemas;
-        tablesLent = k .tables;
-        filesLent = files-lent;
-      }
-
   pub named : fieldsInRange (load w c) ≡ true → livesSound (load w c) ≡ true → Named (w .schemas) (w .schemaNames) (w .tables) (w .tableNames) (w .columns) (w .columnNames) c
   named fields lives =
       let k = held w c room in
@@ -135,6 +124,17 @@ module _ (w : Words) (c : Counts) (room : within c (capacity w) ≡ true) where
   module _ (ascend : idsAscend (load w c) ≡ true) where
     found : IdsFound w c
     found = ids-found w c ids-lent ascend
+
+    pub numbered : snapshotsRise (load w c .snapshots) ≡ true → Numbered (w .snapshots) (w .schemas) (w .tables) (w .dataFiles) (w .deleteFiles) (w .scheduled) c
+    numbered rise = record {
+      snapshotsLent = snapshots-lent;
+      latest = snapshots-by-id rise .0;
+      schemasById = found .schemas;
+      tablesById = found .tables;
+      dataFilesById = found .dataFiles;
+      deleteFilesById = found .deleteFiles;
+      scheduledLent = held w c room .scheduled;
+    }
 
     pub nestable : Nestable (w .schemas) (w .tables) (w .columns) (w .dataFiles) (w .deleteFiles) c
     nestable = record {

@@ -1,6 +1,5 @@
 -- `records_unsound` meets its contract: the lines in their order, each test where those before it are passed.
-use borrow.Author.Needs.{needs}
-use mathlib.Core.Path.{_≡_, refl, ap, _∙_}
+use mathlib.Core.Path.{_≡_, refl}
 use mathlib.Core.Bool.{true}
 use native.Mathlib.Omega.{arith}
 use Prim.Native.Nat.{ℕ}
@@ -89,7 +88,7 @@ records-unsound-spec =
     (λ c. tells _ _ (λ e. omega (arith, e)) (stops (at-lives search) (failed (lives search) search)))
     (λ c κs. ids-lent _ _ (room search))
     (λ c. tells _ _ (λ e. omega (arith, e)) (stops (at-order search) (failed (ascend search) search)))
-    (λ c κs. numbered _ _ (room (begun search)) (passed (rise search) search))
+    (λ c κs. numbered _ _ (room (begun search)) (passed (ascend search) search) (passed (rise search) search))
     (λ c. tells _ _ (λ e. omega (arith, e)) (stops (at-next-ids search) (by-first _ (failed (below search) search))))
     (λ c. record {
       passes = λ _. record {
