@@ -305,28 +305,15 @@ fn put_order_keys(columns: &[u64], w: &[usize], keys: &mut [u64])
         × KeysPut (orderKey (now (columns .entry))) orderKeySize (now (w .entry)) (now (keys .exit)) ⌝ }
 {
     let size = ColumnRecord::SIZE;
+    let table = ColumnRecord::TABLE;
+    let order = ColumnRecord::ORDER;
+    let begin = ColumnRecord::BEGIN;
+    put_words(columns, size, table, w, keys, ORDER_KEY_SIZE, 0);
+    put_words(columns, size, order, w, keys, ORDER_KEY_SIZE, 1);
     put_words(
         columns,
         size,
-        ColumnRecord::TABLE,
-        w,
-        keys,
-        ORDER_KEY_SIZE,
-        0,
-    );
-    put_words(
-        columns,
-        size,
-        ColumnRecord::ORDER,
-        w,
-        keys,
-        ORDER_KEY_SIZE,
-        1,
-    );
-    put_words(
-        columns,
-        size,
-        ColumnRecord::BEGIN,
+        begin,
         w,
         keys,
         ORDER_KEY_SIZE,
@@ -342,12 +329,12 @@ fn all_orders_apart(columns: &[u64], keys: &mut [u64], w: &mut [usize], v: &mut 
     ensures { λ r. ⌜ r ≡ pairwise (ordersApartAt (now (columns .entry))) (range 0 (length (now (w .entry)))) ⌝ }
 {
     let size = ColumnRecord::SIZE;
-    let table = ColumnRecord::TABLE;
-    let order = ColumnRecord::ORDER;
+    let first = ColumnRecord::TABLE;
+    let second = ColumnRecord::ORDER;
     let begin = ColumnRecord::BEGIN;
     let n = w.len();
     number(w);
-    hash_pairs(columns, size, table, order, n, v, 0);
+    hash_pairs(columns, size, first, second, n, v, 0);
     let r = keep_colliding(v, w);
     put_order_keys(columns, &w[..r], keys);
     places_apart(
