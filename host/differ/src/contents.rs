@@ -14,7 +14,7 @@ pub const RECORDS: usize = RECORD_LIMIT + 1;
 pub const ROWS: usize = POSITION_LIMIT / RECORD_LIMIT;
 
 /// The check tells keys apart by two hashes, as crates/sorting/src/colliding.rt has them: a word is mixed, one half of it times a factor, and the next
-/// one added; of what comes of the last, mixed once more, some digits are the hash.
+/// one added; of what comes of the last, mixed once more, some digits are the hash. Of one word by itself the first hash is its last digits.
 pub const FACTORS: [u64; 2] = [2_654_435_769, 3_266_489_917];
 
 const fn mixed(word: u64, factor: u64) -> u64 {
@@ -22,10 +22,15 @@ const fn mixed(word: u64, factor: u64) -> u64 {
 }
 
 fn hashes(words: &[u64]) -> [u64; 2] {
-    FACTORS.map(|factor| mixed(words.iter().fold(0, |digest, word| mixed(digest, factor).wrapping_add(*word)), factor) >> 16 & 0xffff)
+    let [first, second] =
+        FACTORS.map(|factor| mixed(words.iter().fold(0, |digest, word| mixed(digest, factor).wrapping_add(*word)), factor) >> 16 & 0xffff);
+    match words {
+        [word] => [word & 0xffff, second],
+        _ => [first, second],
+    }
 }
 
-/// A word whose lower half is 0 and whose upper half is below 65,536 has the hashes 0: it is mixed to its upper half.
+/// A word whose lower half is 0 and whose upper half is below 65,536 has the hashes 0: it ends in zeros, and is mixed to its upper half.
 const fn of_hash_zero(upper: u64) -> u64 {
     (upper & 0xffff) << 32
 }
@@ -164,6 +169,8 @@ impl Content {
         // of a column: its table, which is also the data file of its statistics, and which of the table's columns it is
         let of_column = |i: usize| if self.wide { i / COLUMN_LIMIT } else { i };
         let column = |i: usize| if self.wide { (i % COLUMN_LIMIT) as u64 } else { 0 };
+        // and its order: those of a table stand in the order that calls don't write
+        let order_of = |i: usize| if self.wide { COLUMN_LIMIT as u64 - 1 - column(i) } else { 0 };
         // of a data file: its table and its begin
         let table_of = |i: usize| if self.scattered { picked(TABLE, i) } else { i };
         let data_file_begin = |i: usize| if self.scattered { self.catalog_id(picked(BEGIN, i)) } else { begin(i) };
@@ -192,7 +199,7 @@ impl Content {
                 let schema = if self.scattered { picked(SCHEMA, i) } else { 0 };
                 [self.catalog_id(i), begin(i), end(i), self.catalog_id(schema), rows * RECORDS as u64]
             }),
-            columns: run(n, |i| [column(i) + 1, self.catalog_id(of_column(i)), begin(i), end(i), column(i), Type::Int64 as u64, 0]),
+            columns: run(n, |i| [column(i) + 1, self.catalog_id(of_column(i)), begin(i), end(i), order_of(i), Type::Int64 as u64, 0]),
             data_files: run(n, |i| {
                 let [high, low] = self.uuid(1, i);
                 [self.file_id(0, i), self.catalog_id(table_of(i)), data_file_begin(i), end(i), rows, rows * i as u64, high, low]

@@ -142,7 +142,7 @@ impl Draft {
             self.name(FIRST_NAMES + 1);
             let columns = if is_one && table > 0 { COLUMN_LIMIT as u64 } else { 1 };
             for column in 1..=columns {
-                self.push(COLUMNS, &[column, id, begin, end, columns - column, Type::Int64 as u64, 1]);
+                self.push(COLUMNS, &[column, id, begin, end, column - 1, Type::Int64 as u64, 1]);
                 self.name(FIRST_NAMES + 2);
             }
         }
