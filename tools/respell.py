@@ -19,17 +19,15 @@ TOKEN = re.compile(r"[^\s(){}\[\]:;,.\"«»@`λ]+")
 CAMEL = re.compile(r"[a-z][A-Za-z0-9₀-₉']*[A-Z]")
 # Names that a lemma has in snake case already, and that a definition gets: the lemma gives way. The files are those that know the lemma.
 GIVE_WAY = {
-    "is_read": "crates/scans/proofs",
-    "live_at": "crates/lookup/proofs",
-    "no_room": "crates/ducklake/proofs",
-    "none_above": "crates/soundness/proofs",
-    "in_order": "crates/soundness_deletes/proofs",
-    "same_answer": "crates/ducklake/proofs",
-    "column_fits": "crates/ducklake/proofs",
+    "is_read": ("crates/scans/proofs",),
+    "live_at": ("crates/lookup/proofs",),
+    "no_room": ("crates/ducklake/proofs",),
+    "none_above": ("crates/soundness/proofs",),
+    "in_order": ("crates/soundness_deletes/proofs",),
+    "same_answer": ("crates/ducklake/proofs",),
+    "column_fits": ("crates/ducklake/proofs",),
+    "first_next": ("crates/lists/proofs/Merges", "crates/expiry/proofs/Merged", "crates/row_deletion/proofs/Merging"),
 }
-# Definitions whose new name would be that of a parameter in a contract that cites them.
-OTHERWISE = {}
-
 
 def own_files():
     for pattern in ("crates/*/specs/**/*.antt", "crates/*/proofs/**/*.antt"):
@@ -88,7 +86,7 @@ def mapping():
     dashed = {t for t in dashed if t not in kit}
     new = {}
     for t in camel:
-        new[t] = OTHERWISE.get(t, snake(t))
+        new[t] = snake(t)
     taken = set(new.values()) | {t for t in plain}
     for t in sorted(dashed):
         # a name of both kinds, as dataFile-next, is a lemma's
@@ -99,11 +97,9 @@ def mapping():
     return new
 
 
-def respell(text, new, comments, strings=False, made=False):
+def respell(text, new, comments, made):
     out, last = [], 0
-    spans = []
-    if strings:
-        spans = [m.span() for m in re.finditer(r'"(?:[^"\\\n]|\\.)*"', text)]
+    spans = [m.span() for m in re.finditer(r'"(?:[^"\\\n]|\\.)*"', text)]
     marks = [m.span() for m in re.finditer(comments, text, re.M)]
 
     def inside(at, where):
@@ -135,8 +131,8 @@ def main(argv):
         rust = path.endswith(".rt")
         names = dict(new)
         tokens = set(TOKEN.findall(text if rust else code(text)))
-        for word, folder in GIVE_WAY.items():
-            if path.startswith(folder) and word in tokens:
+        for word, folders in GIVE_WAY.items():
+            if path.startswith(folders) and word in tokens:
                 names[word] = word + "_lem"
         clash = {}
         for t in tokens:
@@ -144,7 +140,7 @@ def main(argv):
                 clash[t] = names[t]
         if clash:
             seen[path] = clash
-        to = respell(text, names, r"//.*$" if rust else r"(^|\s)--( .*|$)", strings=rust, made=path.endswith("/Proof.antt"))
+        to = respell(text, names, r"//.*$" if rust else r"(^|\s)--( .*|$)", path.endswith("/Proof.antt"))
         if to != text and not dry:
             with open(path, "w", encoding="utf-8") as f:
                 f.write(to)

@@ -8,7 +8,7 @@ use lib.Dec.{ltb}
 use lib.ListN.{length}
 use Rattle.lists.specs.Lists.{chained, first_next}
 use Rattle.lists.specs.Runs.{field, fields, overwrite}
-use Rattle.lists.proofs.Merges.{merged, merged_start, merged_first, merged_second, merged_skip_first, merged_skip_second, merged_end, first_next, second_next}
+use Rattle.lists.proofs.Merges.{merged, merged_start, merged_first, merged_second, merged_skip_first, merged_skip_second, merged_end, first_next_lem, second_next}
 use Rattle.lists.proofs.Writes.{laying, laying_one, laying_room, laying_done}
 use Rattle.lists.proofs.Search.{ascending_weakly, never_falling_lem}
 use Rattle.lists.proofs.Selections.{flat_map_map}
@@ -46,14 +46,14 @@ module _ (data_run : List ℕ) (n : ℕ) (delete_run : List ℕ) (k : ℕ) (ids 
     -- the next is a data file
     module _ (t : r ≡ true) where
       data_below : i < n
-      data_below = (first_next (field data_file_size data_file_id_word data_run) (field delete_file_size delete_file_id_word delete_run) i n j k b (sym e ∙ t)).0
+      data_below = (first_next_lem (field data_file_size data_file_id_word data_run) (field delete_file_size delete_file_id_word delete_run) i n j k b (sym e ∙ t)).0
 
       data_goes : {l : Bool} → l ≡ stays data_file_size data_file_begin_word data_run ids i → not l ≡ true → files i j ≡ data_file_scheduled data_run time i ∷ files (i + 1) j
       unfolding files field
       data_goes s h =
           merged_first (λ x. x.file) (data_file_scheduled data_run time) (data_file_goes data_run ids) n (delete_file_scheduled delete_run time) (delete_file_goes delete_run ids) k i j data_below
           (never_falling_lem (field data_file_size data_file_id_word data_run) n (ascending_weakly _ a) i)
-          (first_next (field data_file_size data_file_id_word data_run) (field delete_file_size delete_file_id_word delete_run) i n j k b (sym e ∙ t)).1
+          (first_next_lem (field data_file_size data_file_id_word data_run) (field delete_file_size delete_file_id_word delete_run) i n j k b (sym e ∙ t)).1
           (sym (ap not s) ∙ h)
 
       data_stays : {l : Bool} → l ≡ stays data_file_size data_file_begin_word data_run ids i → not l ≡ false → files i j ≡ files (i + 1) j

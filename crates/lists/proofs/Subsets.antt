@@ -1,6 +1,6 @@
 -- Two ascending lists, passed through together: whether the second holds every element of the first.
 use Prim.Native.Nat.{ℕ, zero, suc, ◌+◌, ◌≤◌, ◌<◌}
-use mathlib.Core.Path.{◌≡◌, refl, subst}
+use mathlib.Core.Path.{◌≡◌, refl, subst, ap, ◌∙◌}
 use mathlib.Core.Bool.{Bool, true, false}
 use mathlib.Core.List.{List, [], ◌∷◌}
 use native.Mathlib.Omega.{arith}
@@ -59,7 +59,7 @@ module _ (a b : List ℕ) where
 
       pub inside_same : get_or a i 0 ≡ get_or b j 0 → inside i j ≡ inside (i + 1) (j + 1)
       unfolding inside all any
-      inside_same h = rw (rest_step 0 a i l, rest_step 0 b j m, eq-eqb (get_or a i 0) (get_or b j 0) h) (all_ext _ _ (drop (i + 1) a) (λ x n. skip x (get_or b j 0) (drop (j + 1) b) (larger x n)))
+      inside_same h = rw (rest_step 0 a i l, rest_step 0 b j m, eq-eqb (get_or a i 0) (get_or b j 0) h) (all_ext _ _ (drop (i + 1) a) (λ x n. ap (has x) (rest_step 0 b j m) ∙ skip x (get_or b j 0) (drop (j + 1) b) (larger x n)))
         where
           larger : (x : ℕ) → In x (drop (i + 1) a) → get_or b j 0 < x
           larger x n = omega (arith, first_least a i ea l x n)

@@ -141,7 +141,7 @@ refusals =
     ∷ (call ∷ area 12 ∷ not_live ∷ place 0 ∷ words 0 ∷ table_by_name ∷ 4 ∷ 0 ∷ bytes "tt")
     ∷ (call ∷ area 12 ∷ not_live ∷ place 0 ∷ words 0 ∷ table_by_name ∷ 4 ∷ 0 ∷ bytes "T")
     ∷ (call ∷ area 12 ∷ not_live ∷ place 0 ∷ words 0 ∷ table_by_name ∷ 4 ∷ 0 ∷ bytes "t\0")
-    ∷ (call ∷ area 12 ∷ not_live ∷ place 0 ∷ words 0 ∷ table_by_name ∷ 4 ∷ 0 ∷ bytes "t_")
+    ∷ (call ∷ area 12 ∷ not_live ∷ place 0 ∷ words 0 ∷ table_by_name ∷ 4 ∷ 0 ∷ bytes "t-")
     ∷ (call ∷ area 12 ∷ not_live ∷ place 0 ∷ words 0 ∷ table_by_name ∷ 4 ∷ 0 ∷ repeated 33 "t")
     ∷ (call ∷ area 12 ∷ not_live ∷ place 0 ∷ words 0 ∷ table_by_name ∷ 4 ∷ 0 ∷ bytes "")
     ∷ (call ∷ area 12 ∷ not_live ∷ place 0 ∷ words 0 ∷ list_files ∷ 4 ∷ 1 ∷ [])
@@ -165,10 +165,10 @@ refusals =
     ∷ (call ∷ area 12 ∷ time_falls ∷ place 0 ∷ words 0 ∷ drop_table ∷ 139 ∷ 2 ∷ [])
     -- Bad name: empty, a dash, a zero byte
     ∷ (call ∷ area 12 ∷ bad_name ∷ place 0 ∷ words 0 ∷ create_schema ∷ 150 ∷ bytes "")
-    ∷ (call ∷ area 12 ∷ bad_name ∷ place 0 ∷ words 0 ∷ create_schema ∷ 150 ∷ bytes "a_b")
+    ∷ (call ∷ area 12 ∷ bad_name ∷ place 0 ∷ words 0 ∷ create_schema ∷ 150 ∷ bytes "a-b")
     ∷ (call ∷ area 12 ∷ bad_name ∷ place 0 ∷ words 0 ∷ create_schema ∷ 150 ∷ bytes "a\0")
     ∷ (call ∷ area 12 ∷ bad_name ∷ place 0 ∷ words 0 ∷ create_table ∷ 150 ∷ 0 ∷ name "" ++ counted (int64 ∷ 0 ∷ []) ++ names ("c" ∷ []))
-    ∷ (call ∷ area 12 ∷ bad_name ∷ place 0 ∷ words 0 ∷ create_table ∷ 150 ∷ 0 ∷ name "a_b" ++ counted (int64 ∷ 0 ∷ []) ++ names ("c" ∷ []))
+    ∷ (call ∷ area 12 ∷ bad_name ∷ place 0 ∷ words 0 ∷ create_table ∷ 150 ∷ 0 ∷ name "a-b" ++ counted (int64 ∷ 0 ∷ []) ++ names ("c" ∷ []))
     ∷ (call ∷ area 12 ∷ bad_name ∷ place 0 ∷ words 0 ∷ create_table ∷ 150 ∷ 0 ∷ name "a\0" ++ counted (int64 ∷ 0 ∷ []) ++ names ("c" ∷ []))
     -- the bytes beside digits, upper case, the underscore and lower case
     ∷ (call ∷ area 12 ∷ bad_name ∷ place 0 ∷ words 0 ∷ create_schema ∷ 150 ∷ bytes "/")
@@ -196,7 +196,7 @@ refusals =
     ∷ (call ∷ area 12 ∷ bad_columns ∷ place 0 ∷ words 0 ∷ create_table ∷ 150 ∷ 0 ∷ name "u" ++ counted (int64 ∷ 2 ∷ []) ++ names ("c" ∷ []))
     -- a name that is empty, has a dash, has a byte after its end; a name twice
     ∷ (call ∷ area 12 ∷ bad_columns ∷ place 0 ∷ words 0 ∷ create_table ∷ 150 ∷ 0 ∷ name "u" ++ counted (int64 ∷ 0 ∷ []) ++ names ("" ∷ []))
-    ∷ (call ∷ area 12 ∷ bad_columns ∷ place 0 ∷ words 0 ∷ create_table ∷ 150 ∷ 0 ∷ name "u" ++ counted (int64 ∷ 0 ∷ []) ++ names ("a_b" ∷ []))
+    ∷ (call ∷ area 12 ∷ bad_columns ∷ place 0 ∷ words 0 ∷ create_table ∷ 150 ∷ 0 ∷ name "u" ++ counted (int64 ∷ 0 ∷ []) ++ names ("a-b" ∷ []))
     ∷ (call ∷ area 12 ∷ bad_columns ∷ place 0 ∷ words 0 ∷ create_table ∷ 150 ∷ 0 ∷ name "u" ++ counted (int64 ∷ 0 ∷ []) ++ names ("a\0b" ∷ []))
     ∷ (call ∷ area 12 ∷ bad_columns ∷ place 0 ∷ words 0 ∷ create_table ∷ 150 ∷ 0 ∷ name "u" ++ counted (int64 ∷ 0 ∷ int64 ∷ 0 ∷ int64 ∷ 0 ∷ [])
     ++ names ("c" ∷ "d" ∷ "c" ∷ []))

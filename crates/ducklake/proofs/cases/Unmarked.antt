@@ -86,9 +86,9 @@ unmarked =
     ∷ (leaves ∷ answer_area ∷ at 0 ∷ 0 ∷ 3 ∷ 1 ∷ absent ∷ [])
     ∷ (call ∷ area 6 ∷ accepted ∷ place 0 ∷ words 4 ∷ list_files ∷ 5 ∷ 1 ∷ [])
     -- the paths of the files, and one with letters in every group
-    ∷ (leaves ∷ answer_area ∷ at 0 ∷ bytes "ducklake_00000000_0000_0000_0000_000000000001.parquet")
+    ∷ (leaves ∷ answer_area ∷ at 0 ∷ bytes "ducklake-00000000-0000-0000-0000-000000000001.parquet")
     ∷ (call ∷ area 60 ∷ accepted ∷ place 0 ∷ words 53 ∷ path_of_file ∷ 0 ∷ 1 ∷ [])
-    ∷ (leaves ∷ answer_area ∷ at 0 ∷ bytes "ducklake_fedcba98_7abc_4def_9abf_0123456789ab.parquet")
+    ∷ (leaves ∷ answer_area ∷ at 0 ∷ bytes "ducklake-fedcba98-7abc-4def-9abf-0123456789ab.parquet")
     ∷ (call ∷ area 60 ∷ accepted ∷ place 0 ∷ words 53 ∷ path_of_file ∷ 0xfedcba987abc4def ∷ 0x9abf0123456789ab ∷ [])
     -- the expiry of the latest
     ∷ (call ∷ area 6 ∷ expires_latest ∷ place 0 ∷ words 0 ∷ expire ∷ 160 ∷ 5 ∷ [])

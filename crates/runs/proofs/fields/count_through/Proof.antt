@@ -20,7 +20,7 @@ field_at_requires_2 c κs = let s = c.before.before.before.before.requires in (r
 returns : tie.Need-returns
 returns c =
     let start : tie.Start = search in
-    parted_through _ _ start.pre.2 _ c.before.before.before.if1.true _ c.before.before.field_at.ensures c.before.field-at2.ensures c.if2.true
+    parted_through _ _ start.requires.2 _ c.before.before.before.if1.true _ c.before.before.field_at.ensures c.before.field-at2.ensures c.if2.true
 
 pub count_through_spec : {M : Type 1} → statement M
 count_through_spec = tie.close (tie.spec (λ c κs. search rules) sub_field_at field_at_requires field_at_requires_2 returns (λ c κs. search rules) (λ c. search rules))

@@ -13,15 +13,15 @@ decreases-loop w₀ size n flags kept₀ k₀ at₀ i₀ w kept k at i = n - i
 loop_holds : tie.Need-loop-init invariant-loop decreases-loop
 loop_holds c = keeping_start c.before.before.requires.0
 
-add_at : tie.Need-overflow-add-at invariant-loop decreases-loop
+add_at : tie.Need-overflow_add-at invariant-loop decreases-loop
 add_at c = omega (arith, row_fits c.before.before.loop.invariant c.before.loop-test.true)
 
-move_words_requires : tie.Need-move-words-requires invariant-loop decreases-loop
+move_words_requires : tie.Need-move_words-requires invariant-loop decreases-loop
 move_words_requires c κs =
     let turn : tie.In-loop invariant-loop decreases-loop = search in
     (omega arith, omega (arith, row_fits turn.before.loop.inv turn.loop-test.taken))
 
-add_k : tie.Need-overflow-add-k invariant-loop decreases-loop
+add_k : tie.Need-overflow_add-k invariant-loop decreases-loop
 add_k c =
     let turn : tie.In-loop invariant-loop decreases-loop = search in
     omega (arith, row_fits turn.before.loop.inv turn.loop-test.taken)
@@ -35,7 +35,7 @@ loop_again c =
 loop_again_2 : tie.Need-loop-preserved-2 invariant-loop decreases-loop
 loop_again_2 c = keeping_fail c.before.before.before.loop.invariant c.before.before.loop-test.true (sym c.before.is-flagged.ensures ∙ c.if1.false)
 
-clear_words_requires : tie.Need-clear-words-requires invariant-loop decreases-loop
+clear_words_requires : tie.Need-clear_words-requires invariant-loop decreases-loop
 clear_words_requires c κs = (omega arith, omega (arith, rows_fit c.before.before.loop.invariant))
 
 returns : tie.Need-returns invariant-loop decreases-loop

@@ -10,7 +10,7 @@ field_at_requires c κs = let s = c.before.before.requires in (record_fits _ (om
 field_at_requires_2 : tie.Need-field-at-requires-2
 field_at_requires_2 c κs = let s = c.before.before.before.requires in (record_fits _ (omega arith) s.0, s.1)
 
-mul_result : tie.Need-overflow-mul-result
+mul_result : tie.Need-overflow_mul-result
 mul_result c =
     let s : tie.After-field-at = search in
     let start : tie.Start = search in

@@ -31,7 +31,7 @@ field_at_requires_2 c κs =
     let turn : tie.In-loop invariant-loop decreases-loop = search in
     (record_fits _ turn.loop-test.taken (lent turn), (begun turn).pre.2)
 
-set_field_requires : tie.Need-set-field-requires invariant-loop decreases-loop
+set_field_requires : tie.Need-set_field-requires invariant-loop decreases-loop
 set_field_requires c κs =
     let turn : tie.In-loop invariant-loop decreases-loop = search in
     (record_fits _ turn.loop-test.taken (lent turn), (begun turn).pre.2)

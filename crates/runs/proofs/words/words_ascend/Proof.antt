@@ -6,7 +6,7 @@ use Rattle.runs.proofs.words.words_ascend.Statement.{statement}
 use Rattle.runs.proofs.words.words_ascend.Tie as tie
 
 returns : tie.Need-returns
-returns c = c.fields-ascend.ensures ∙ ap (chained ltb) (fields_words _ _ refl)
+returns c = c.fields_ascend.ensures ∙ ap (chained ltb) (fields_words _ _ refl)
 
 pub words_ascend_spec : {M : Type 1} → statement M
 words_ascend_spec = tie.close (tie.spec (λ c κs. search rules) returns)
