@@ -1,0 +1,26 @@
+-- `count_through_from` meets its contract: at most x is below x + 1, and wherever it looks the search keeps the count of what is below between its two ends.
+use Rattle.std.proofs.Common.{◌≡◌, ◌+◌, ◌-◌, ◌≤◌, leb, sym, ◌∙◌, arith, rules}
+use Rattle.lists.specs.Lists.{count}
+use Rattle.lists.specs.Runs.{field, fields}
+use Rattle.lists.proofs.Counts.{count_ext}
+use Rattle.lists.proofs.Tests.{ltb_suc}
+use Rattle.lists.proofs.Runs.{record_fits}
+use Rattle.lists.proofs.Search.{below, below_start, below_up, below_down, below_end}
+use Rattle.runs.proofs.fields.count_through_from.Goals as goal
+
+pub loop-lo-init : goal.loop-lo-init
+loop-lo-init c = (omega arith, omega arith, count_ext _ _ _ (λ y m. sym (ltb_suc y _)) ∙ below_start _ _ _)
+
+pub field_at-y-requires : goal.field_at-y-requires
+field_at-y-requires c = let s = c.requires in (record_fits _ (omega arith) s.0, s.1)
+
+pub loop-lo-preserved-then-y-x : goal.loop-lo-preserved-then-y-x
+loop-lo-preserved-then-y-x c =
+    (omega arith, omega arith, c.loop-lo.invariant.2 ∙ below_up _ _ _ c.requires.2 _ _ _ (omega arith) (omega arith) (omega arith) (omega (arith, c.field_at-y.ensures)))
+
+pub loop-lo-preserved : goal.loop-lo-preserved
+loop-lo-preserved c =
+    (omega arith, omega arith, c.loop-lo.invariant.2 ∙ below_down _ _ _ c.requires.2 _ _ _ (omega arith) (omega arith) (omega arith) (omega (arith, c.field_at-y.ensures)))
+
+pub returns : goal.returns
+returns c = sym (c.loop-lo.invariant.2 ∙ below_end _ _ _ _ c.loop-lo-test.false)

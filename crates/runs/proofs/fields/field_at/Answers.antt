@@ -1,0 +1,8 @@
+-- `field_at` meets its contract: the definition reads the same word.
+use Rattle.std.proofs.Common.{refl, rules}
+use Rattle.lists.specs.Runs.{field}
+use Rattle.runs.proofs.fields.field_at.Goals as goal
+
+pub returns : goal.returns
+unfolding field
+returns c = refl

@@ -1,0 +1,12 @@
+-- `find_from` meets its contract: what stands before the two ends of the search is below x, and what stands behind them is above.
+use Rattle.std.proofs.Common.{◌-◌, sym, ◌∙◌, arith, rules}
+use Rattle.lists.specs.Runs.{field}
+use Rattle.lists.proofs.Runs.{record_fits}
+use Rattle.runs.proofs.Places.{Between, up, down, here, nowhere}
+use Rattle.runs.proofs.fields.find_from.Given as goal
+
+abbrev pub invariant-loop-lo : goal.invariant-loop-lo
+invariant-loop-lo l = Between (field l.size l.at l.w) l.x l.n l.lo l.hi
+
+abbrev pub decreases-loop-lo : goal.decreases-loop-lo
+decreases-loop-lo l = l.hi - l.lo

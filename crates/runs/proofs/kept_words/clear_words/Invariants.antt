@@ -1,0 +1,11 @@
+-- `clear_words` meets its contract: each turn writes one zero more.
+use Rattle.std.proofs.Common.{◌≡◌, ◌-◌, ◌≤◌, length, replicate, sym, ◌∙◌, arith, length-set, rules}
+use Rattle.lists.specs.Runs.{overwrite}
+use Rattle.lists.proofs.Loops.{clear_next, clear_end}
+use Rattle.runs.proofs.kept_words.clear_words.Given as goal
+
+abbrev pub invariant-loop-j : goal.invariant-loop-j
+invariant-loop-j l = (l.j ≤ l.e) × (length l.w ≡ length l.initial.w) × (overwrite l.initial.w l.a (replicate (l.e - l.a) 0) ≡ overwrite l.w l.j (replicate (l.e - l.j) 0))
+
+abbrev pub decreases-loop-j : goal.decreases-loop-j
+decreases-loop-j l = l.e - l.j

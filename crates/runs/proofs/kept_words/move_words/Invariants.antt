@@ -1,0 +1,10 @@
+-- `move_words` meets its contract: each turn moves one word down, and what is still to be moved lies above it.
+use Rattle.std.proofs.Common.{◌≡◌, ◌-◌, ◌≤◌, length, sym, refl, ◌∙◌, arith, length-set, rules}
+use Rattle.lists.proofs.Writes.{moved, moved_start, moved_next, moved_end}
+use Rattle.runs.proofs.kept_words.move_words.Given as goal
+
+abbrev pub invariant-loop-b : goal.invariant-loop-b
+invariant-loop-b l = (l.b ≤ l.n) × (length l.w ≡ length l.initial.w) × (moved l.to l.at l.n l.initial.w 0 ≡ moved l.to l.at l.n l.w l.b)
+
+abbrev pub decreases-loop-b : goal.decreases-loop-b
+decreases-loop-b l = l.n - l.b

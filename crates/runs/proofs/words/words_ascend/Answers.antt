@@ -1,0 +1,8 @@
+-- `words_ascend` meets its contract: the only words of records of one word are the run's.
+use Rattle.std.proofs.Common.{ltb, refl, ap, ◌∙◌, rules}
+use Rattle.lists.specs.Lists.{chained}
+use Rattle.lists.proofs.Layouts.{fields_words}
+use Rattle.runs.proofs.words.words_ascend.Goals as goal
+
+pub returns : goal.returns
+returns c = c.fields_ascend.ensures ∙ ap (chained ltb) (fields_words _ _ refl)
