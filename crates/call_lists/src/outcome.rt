@@ -9,7 +9,7 @@ pub const TOLD_SIZE: usize = 3;
 
 // What a list of calls gives: how many were played, the words of all their answers, the catalogue record.
 #[repr(C)]
-#[derive(Drop)]
+#[derive(Clone, Copy)]
 pub struct Session {
     pub played: usize,
     pub answered: usize,

@@ -9,7 +9,7 @@ use layout::record::{
 };
 
 // Where an argument lies in the run of its kind: its first word or byte, and how many.
-#[derive(Drop)]
+#[derive(Clone, Copy)]
 pub struct Span {
     pub start: usize,
     pub length: usize,
@@ -18,7 +18,7 @@ pub struct Span {
 // A call or a reading, fields in the order of its words; each reads those that it takes. `catalog` is a schema or a table, `file` a data file or, for the
 // lookup, any file; `words` are columns, statistics, positions or snapshot ids; `name` is a schema's or a table's, `names` are the columns'.
 // The scalar is a signed number, by its word.
-#[derive(Drop)]
+#[derive(Clone, Copy)]
 pub struct CallRecord {
     pub kind: u64,
     pub time: u64,

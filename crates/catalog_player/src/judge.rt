@@ -9,7 +9,7 @@ use refusals::checked::Checked;
 use soundness::checked::check;
 
 // What is known of the tables: what the check gave, and whether they are sound and chained, so that it holds from call to call.
-#[derive(Drop)]
+#[derive(Clone, Copy)]
 pub struct Judged {
     pub checked: Checked,
     pub lasting: bool,

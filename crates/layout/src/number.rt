@@ -1,20 +1,20 @@
 // The standard's four counters, a type each: a file number is never taken for a row number.
 #[repr(C)]
-#[derive(Drop)]
+#[derive(Clone, Copy)]
 pub struct SnapshotId(pub u64);
 
 // Schemas and tables.
 #[repr(C)]
-#[derive(Drop)]
+#[derive(Clone, Copy)]
 pub struct CatalogId(pub u64);
 
 // Data files and delete files.
 #[repr(C)]
-#[derive(Drop)]
+#[derive(Clone, Copy)]
 pub struct FileId(pub u64);
 
 #[repr(C)]
-#[derive(Drop)]
+#[derive(Clone, Copy)]
 pub struct RowId(pub u64);
 
 // An end that is not set.

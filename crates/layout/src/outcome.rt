@@ -1,6 +1,6 @@
 // The catalogue record: how many records of each table, and how many positions, are used.
 #[repr(C)]
-#[derive(Drop)]
+#[derive(Clone, Copy)]
 pub struct Counts {
     pub snapshots: usize,
     pub schemas: usize,
@@ -15,14 +15,14 @@ pub struct Counts {
 
 // What a commit is made under: its time.
 #[repr(C)]
-#[derive(Drop)]
+#[derive(Clone, Copy)]
 pub struct Terms {
     pub time: u64,
 }
 
 // What a call gives: 0 or the refusal's number, its place, the answer's length in words, the catalogue record.
 #[repr(C)]
-#[derive(Drop)]
+#[derive(Clone, Copy)]
 pub struct Outcome {
     pub number: u64,
     pub place: u64,

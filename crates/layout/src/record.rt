@@ -2,13 +2,13 @@ use crate::number::{CatalogId, FileId, RowId, SnapshotId};
 
 // The records of the lent tables, fields in the order of their words. Names and positions lie in runs of their own.
 #[repr(C)]
-#[derive(Drop)]
+#[derive(Clone, Copy)]
 pub struct Uuid {
     pub high: u64,
     pub low: u64,
 }
 
-#[derive(Drop)]
+#[derive(Clone, Copy)]
 pub struct SnapshotRecord {
     pub id: SnapshotId,
     pub time: u64,
@@ -50,7 +50,7 @@ pub const DROPPED_SCHEMA: u64 = 6;
 
 pub const DROPPED_TABLE: u64 = 7;
 
-#[derive(Drop)]
+#[derive(Clone, Copy)]
 pub struct SchemaRecord {
     pub id: CatalogId,
     pub begin: SnapshotId,
@@ -67,7 +67,7 @@ impl SchemaRecord {
     pub const END: usize = 2;
 }
 
-#[derive(Drop)]
+#[derive(Clone, Copy)]
 pub struct TableRecord {
     pub id: CatalogId,
     pub begin: SnapshotId,
@@ -90,7 +90,7 @@ impl TableRecord {
     pub const NEXT_ROW_ID: usize = 4;
 }
 
-#[derive(Drop)]
+#[derive(Clone, Copy)]
 pub struct ColumnRecord {
     pub id: u64,
     pub table: CatalogId,
@@ -119,7 +119,7 @@ impl ColumnRecord {
     pub const NULLS_ALLOWED: usize = 6;
 }
 
-#[derive(Drop)]
+#[derive(Clone, Copy)]
 pub struct DataFileRecord {
     pub id: FileId,
     pub table: CatalogId,
@@ -150,7 +150,7 @@ impl DataFileRecord {
     pub const UUID_LOW: usize = 7;
 }
 
-#[derive(Drop)]
+#[derive(Clone, Copy)]
 pub struct DeleteFileRecord {
     pub id: FileId,
     pub table: CatalogId,
@@ -181,7 +181,7 @@ impl DeleteFileRecord {
     pub const UUID_LOW: usize = 7;
 }
 
-#[derive(Drop)]
+#[derive(Clone, Copy)]
 pub struct StatisticsRecord {
     pub data_file: FileId,
     pub column: u64,
@@ -210,7 +210,7 @@ impl StatisticsRecord {
     pub const MAX: usize = 6;
 }
 
-#[derive(Drop)]
+#[derive(Clone, Copy)]
 pub struct ScheduledRecord {
     pub file: FileId,
     pub uuid: Uuid,

@@ -1,5 +1,5 @@
 // A column type: its code, its lowest and its highest value.
-#[derive(Drop)]
+#[derive(Clone, Copy)]
 pub struct TypeRange {
     pub code: u64,
     pub low: i64,

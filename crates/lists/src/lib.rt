@@ -1,7 +1,7 @@
 // Lists, runs of words and records in runs: definitions in specs/, laws in proofs/. Nothing of DuckLake, and no function.
 
 // A place, or none.
-#[derive(Drop)]
+#[derive(Clone, Copy)]
 pub enum Found {
     At(usize),
     Nothing,

@@ -8,7 +8,7 @@ use runs::fields::{count_below, count_through};
 use runs::probes::interpolate;
 
 // The places from `start` up to, and without, `end`.
-#[derive(Drop)]
+#[derive(Clone, Copy)]
 pub struct Block {
     pub start: usize,
     pub end: usize,

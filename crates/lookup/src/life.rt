@@ -7,7 +7,7 @@ use layout::number::{ABSENT, SnapshotId};
 use runs::fields::field_at;
 
 // From begin up to, and without, end; ABSENT is greatest.
-#[derive(Drop)]
+#[derive(Clone, Copy)]
 pub struct Life {
     pub begin: SnapshotId,
     pub end: SnapshotId,

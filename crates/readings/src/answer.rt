@@ -4,7 +4,7 @@ ghost use Rattle.readings.specs.Answers.{Answered};
 use layout::outcome::{ACCEPTED, SHORT_ANSWER_AREA};
 
 // What a reading gives: 0 or the refusal's number, and the answer's length in words.
-#[derive(Drop)]
+#[derive(Clone, Copy)]
 pub struct Answer {
     pub number: u64,
     pub length: usize,

@@ -11,7 +11,7 @@ use lookup::positions::positions_before;
 use records::delete_file::delete_file_delete_count;
 
 // So many words of a run, from `start` on.
-#[derive(Drop)]
+#[derive(Clone, Copy)]
 pub struct Part {
     pub start: usize,
     pub count: usize,

@@ -5,7 +5,7 @@ ghost use Rattle.std.specs.Prelude.{◌≡◌, ◌*◌, ◌<◌, ◌≤◌, leng
 use crate::fields::field_at;
 
 // The first word, and how many digits of a distance from it are left aside.
-#[derive(Drop)]
+#[derive(Clone, Copy)]
 pub struct Scale {
     pub first: u64,
     pub shift: u64,

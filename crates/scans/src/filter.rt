@@ -13,7 +13,7 @@ use records::statistics::statistics_at;
 use runs::hints::{Scale, fill_hints};
 
 // Which files a list keeps: every one, or those that may hold a row with `column = scalar`.
-#[derive(Drop)]
+#[derive(Clone, Copy)]
 pub enum Filter {
     Every,
     Equal(u64, i64),

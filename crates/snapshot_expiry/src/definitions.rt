@@ -6,7 +6,7 @@ use layout::outcome::Counts;
 use layout::record::{ColumnRecord, SchemaRecord, TableRecord};
 
 // How many schemas, tables and columns are used.
-#[derive(Drop)]
+#[derive(Clone, Copy)]
 pub struct DefinitionCounts {
     pub schemas: usize,
     pub tables: usize,

@@ -7,7 +7,7 @@ use layout::outcome::Counts;
 use layout::record::{DataFileRecord, DeleteFileRecord};
 
 // How many files, positions, statistics and scheduled records are used.
-#[derive(Drop)]
+#[derive(Clone, Copy)]
 pub struct FileCounts {
     pub data_files: usize,
     pub delete_files: usize,

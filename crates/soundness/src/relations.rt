@@ -21,7 +21,7 @@ use soundness_unique::files::files_distinct;
 use soundness_unique::naming::names_apart;
 
 // What the tests say that compare records with others of their kind.
-#[derive(Drop)]
+#[derive(Clone, Copy)]
 pub struct Compared {
     pub distinct: bool,
     pub apart: bool,

@@ -17,7 +17,7 @@ use sorting::sort::number;
 // Ids and UUIDs of files are in no order over the three tables: they are hashed where they stand, and only those that share a hash become keys.
 
 // A word of a record of each table.
-#[derive(Drop)]
+#[derive(Clone, Copy)]
 pub struct FileWords {
     pub data_file: usize,
     pub delete_file: usize,

@@ -35,7 +35,7 @@ const ORDER_KEY_SIZE: usize = 3;
 const ORDER_KEY_BEGIN: usize = 2;
 
 // Which records may not share a name: any two, or those with the same number in a word.
-#[derive(Drop)]
+#[derive(Clone, Copy)]
 pub enum Group {
     All,
     With(usize),

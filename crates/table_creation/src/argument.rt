@@ -5,7 +5,7 @@ ghost use Rattle.table_creation.specs.Columns.{argument_at};
 use layout::number::COLUMN_ARGUMENT_SIZE;
 
 // A column of the argument, beside its name: "type and nulls_allowed, two words each".
-#[derive(Drop)]
+#[derive(Clone, Copy)]
 pub struct ColumnArgument {
     pub type_code: u64,
     pub nulls_allowed: u64,

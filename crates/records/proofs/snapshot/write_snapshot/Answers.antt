@@ -1,0 +1,32 @@
+-- `write_snapshot` meets its contract: the words are written one after another, in the order of the layout.
+use Prim.Native.Nat.{◌*◌}
+use borrow.Author.Rules.{rules}
+use native.Mathlib.Numerals.{towards_suc}
+use native.Mathlib.Omega.{arith}
+use lib.ListN.{length-set}
+use Rattle.lists.proofs.Runs.{overwrite_sets}
+use Rattle.layout.specs.Fields.{snapshot_size}
+use Rattle.layout.specs.Records.{snapshot_words}
+use Rattle.records.proofs.snapshot.write_snapshot.Goals as goal
+
+pub bounds-w-k-2 : goal.bounds-w-k-2
+bounds-w-k-2 c = simp length-set (omega arith)
+
+pub bounds-w-k-3 : goal.bounds-w-k-3
+bounds-w-k-3 c = simp length-set (omega arith)
+
+pub bounds-w-k-4 : goal.bounds-w-k-4
+bounds-w-k-4 c = simp length-set (omega arith)
+
+pub bounds-w-k-5 : goal.bounds-w-k-5
+bounds-w-k-5 c = simp length-set (omega arith)
+
+pub bounds-w-k-6 : goal.bounds-w-k-6
+bounds-w-k-6 c = simp length-set (omega arith)
+
+pub bounds-w-k-7 : goal.bounds-w-k-7
+bounds-w-k-7 c = simp length-set (omega arith)
+
+pub returns : goal.returns
+unfolding snapshot_words
+returns c = simp towards_suc (overwrite_sets c.args.w.now (snapshot_size * c.args.i) (snapshot_words c.args.r) c.requires)

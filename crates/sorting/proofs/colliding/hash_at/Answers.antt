@@ -1,0 +1,20 @@
+-- `hash_at` meets its contract: the digest goes on word by word.
+use Rattle.std.proofs.Common.{◌≡◌, ◌-◌, sym, refl, ap, ◌∙◌, rules}
+use Rattle.lists.specs.Runs.{from, field}
+use Rattle.sorting.specs.Colliding.{prefix_at, digest, hashed}
+use Rattle.sorting.proofs.Collisions.{digest_next, digest_end}
+use Rattle.sorting.proofs.colliding.hash_at.Goals as goal
+
+pub loop-k-init : goal.loop-k-init
+loop-k-init c = refl
+
+pub loop-k-preserved : goal.loop-k-preserved
+loop-k-preserved c =
+    let l = c.loop-k in
+    l.invariant ∙ digest_next _ _ _ _ _ c.loop-k-test.true c.field_at-x.ensures c.absorb-h.ensures
+
+pub returns : goal.returns
+returns c =
+    let l = c.loop-k in
+    let second = c.args.second in
+    c.hash.ensures.0 ∙ ap (hashed second) (sym (l.invariant ∙ digest_end _ _ _ _ _ c.loop-k-test.false))

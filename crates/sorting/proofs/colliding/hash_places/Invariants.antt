@@ -1,0 +1,13 @@
+-- `hash_places` meets its contract: the hash of each place is written in its turn.
+use Rattle.std.proofs.Common.{◌≡◌, ◌-◌, ◌≤◌, length, sym, ◌∙◌, arith, length-set, rules}
+use Rattle.sorting.specs.Colliding.{hash_at}
+use Rattle.sorting.proofs.KeyOrder.{keyed_at_lem}
+use Rattle.sorting.proofs.Collisions.{Mapped, mapped_start, mapped_next, mapped_end}
+use Rattle.sorting.proofs.colliding.hash_places.Given as goal
+
+abbrev pub invariant-loop-i : goal.invariant-loop-i
+invariant-loop-i l =
+    (l.i ≤ length l.w) × (length l.hashes ≡ length l.w) × Mapped (hash_at l.second l.used l.size l.keys) l.w l.hashes l.i
+
+abbrev pub decreases-loop-i : goal.decreases-loop-i
+decreases-loop-i l = length l.w - l.i
