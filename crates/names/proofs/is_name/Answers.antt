@@ -15,7 +15,7 @@ loop-k-init c = rest_start c.args.names.now c.args.i c.requires
 pub loop-k-preserved : goal.loop-k-preserved
 loop-k-preserved c =
     c.loop-k.invariant
-    ∙ rest_next c.loop-k.ok c.loop-k (place_step c.args.names.now c.args.i c.requires c.loop-k.k c.loop-k-test.true) c.is_name_byte-named.ensures
+    ∙ rest_next c.loop-k.ok c.loop-k.before (place_step c.args.names.now c.args.i c.requires c.loop-k.k c.loop-k-test.true) c.is_name_byte-named.ensures
 
 pub returns : goal.returns
 returns c =
