@@ -19,7 +19,7 @@ use Rattle.ducklake.specs.Readings.{Query}
 use Rattle.ducklake.specs.Calls.{Result, perform_fresh, query_at, Promise}
 use Rattle.ducklake.specs.Journal.{TableRows}
 use Rattle.ducklake.specs.Claim.{State, is_retained}
-use Rattle.ducklake.specs.Observed.{Request, calls, reads, looks_up, perform_request, Observation, after, after_all, Kept, started, Reads, given, Seen, SeenSinceMade}
+use Rattle.ducklake.specs.Observed.{Request, calls, reads, looks_up, perform_request, Observation, came_back, after, after_all, Kept, started, Reads, given, Seen, SeenSinceMade}
 use Rattle.ducklake.proofs.claim.Observed.{observed}
 use Rattle.call_lists.specs.declared.outcome.Session.{Session}
 use Rattle.call_lists.specs.Records.{call_size, call_at}
@@ -38,11 +38,11 @@ after_leaves S (looks_up file) r = (refl, refl)
 
 pub after-append : (S : State) (xs ys : List Observation) → after_all S (xs ++ ys) ≡ after_all (after_all S xs) ys
 after-append S [] ys = refl
-after-append S (x ∷ xs) ys = after-append _ xs ys
+after-append S (x ∷ xs) ys = after-append (after S x.request (came_back x)) xs ys
 
 pub kept_append : (S : State) (xs ys : List Observation) → Kept S xs → Kept (after_all S xs) ys → Kept S (xs ++ ys)
 kept_append S [] ys p q = q
-kept_append S (x ∷ xs) ys p q = (p.0, kept_append _ xs ys p.1 q)
+kept_append S (x ∷ xs) ys p q = (p.0, kept_append (after S x.request (came_back x)) xs ys p.1 q)
 
 module _ (calls lists names : List ℕ) (w : Words) (c : Counts) (a t : List ℕ) {s : Session} {w' : Words} {a' t' : List ℕ}
     (P : SessionPromise calls lists names w c a (calls_played calls lists names t) t s w' a' t') where
@@ -92,7 +92,7 @@ module _ (calls lists names : List ℕ) (w : Words) (c : Counts) (a t : List ℕ
   kept_from S i zero h f p q = (tt, p ∙ ap (λ j. (at j).words) (sym (add-zero i)), q ∙ ap (λ j. (at j).counts) (sym (add-zero i)))
   kept_from S i (suc n) h f p q =
       let l = after_leaves S (asks_for i) _ in
-      let r = kept_from _ (suc i) n (omega (arith, h)) (λ e. absurd (omega (arith, e))) l.0 l.1 in
+      let r = kept_from (after S (asks_for i) (came_back (saw i))) (suc i) n (omega (arith, h)) (λ e. absurd (omega (arith, e))) l.0 l.1 in
       let e : suc i + n ≡ i + suc n = omega arith in
       ((kept_one S i (omega (arith, h)) f p q, r.0), r.1 ∙ ap (λ j. (at j).words) e, r.2 ∙ ap (λ j. (at j).counts) e)
 

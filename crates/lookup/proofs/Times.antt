@@ -27,6 +27,7 @@ highest_most (x ∷ xs) m h = omega (arith, h x (here refl), highest_most xs m (
 
 highest_least : {x : ℕ} {xs : List ℕ} → In x xs → x ≤ highest xs
 unfolding highest
+highest_least {xs = []} m = elim m [ ]
 highest_least {xs = y ∷ xs} (here e) = omega (arith, e)
 highest_least {xs = y ∷ xs} (next i) = omega (arith, highest_least i)
 

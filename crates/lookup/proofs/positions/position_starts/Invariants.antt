@@ -1,0 +1,21 @@
+-- `position_starts` meets its contract: the sum so far is what the delete files before i have, and each is written at its place.
+use borrow.Author.Rules.{rules}
+use Prim.Native.Nat.{◌-◌, ◌≤◌}
+use mathlib.Core.Path.{◌≡◌, sym, ◌∙◌}
+use mathlib.Core.List.{map}
+use native.Mathlib.Omega.{arith}
+use lib.ListN.{length, length-set}
+use Rattle.lists.specs.Lists.{range}
+use Rattle.lists.specs.Runs.{overwrite}
+use Rattle.lists.proofs.Loops.{filled, filled_start, filled_next, filled_end}
+use Rattle.layout.specs.Words.{positions_before, positions_first}
+use Rattle.lookup.proofs.Locations.{positions_next, positions_room}
+use Rattle.lookup.proofs.positions.position_starts.Given as goal
+
+abbrev pub invariant-loop-i : goal.invariant-loop-i
+invariant-loop-i l =
+    (l.i ≤ l.n) × (length l.starts ≡ length l.initial.starts) × (l.sum ≡ positions_before l.delete_files l.i)
+    × (overwrite l.initial.starts 0 (map (positions_before l.delete_files) (range 0 l.n)) ≡ filled (positions_before l.delete_files) l.n l.starts l.i)
+
+abbrev pub decreases-loop-i : goal.decreases-loop-i
+decreases-loop-i l = l.n - l.i
