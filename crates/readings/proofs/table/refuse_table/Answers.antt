@@ -1,0 +1,24 @@
+-- `refuse_table` meets its contract: unsound tables, or the first of its tests that isn't passed.
+use borrow.Author.Rules.{rules}
+use Rattle.refusals.proofs.Laws.{is_sound_lem, reading_unsound}
+use Rattle.refusals.proofs.Tests.{◌then◌, done, reading_judged}
+use Rattle.readings.proofs.Found.{snapshots_by_id, tables_by_id_lem}
+use Rattle.readings.proofs.Judged.{retained_as, table_live_as}
+use Rattle.readings.proofs.table.refuse_table.Goals as goal
+
+pub returns-then-not-checked : goal.returns-then-not-checked
+returns-then-not-checked c l = reading_unsound _ _ l.checked _ c.if-not-checked.true
+
+pub is_retained-there-requires : goal.is_retained-there-requires
+is_retained-there-requires c = snapshots_by_id _ _ (is_sound_lem _ _ c.requires.checked c.if-not-checked.false) c.requires.snapshots
+
+pub table_is_live-live-requires : goal.table_is_live-live-requires
+table_is_live-live-requires c = tables_by_id_lem _ _ (is_sound_lem _ _ c.requires.checked c.if-not-checked.false) c.requires.tables
+
+pub returns : goal.returns
+returns c l =
+    let w = l.words in
+    reading_judged w _ (is_sound_lem w _ l.checked c.if-not-checked.false) _ c.first_refusal.ensures
+    (retained_as w _ _ l.snapshots c.is_retained-there.ensures then λ _.
+    table_live_as w _ _ _ l.tables (c.table_is_live-live.ensures w.table_names) then λ _.
+    done)
