@@ -26,6 +26,7 @@ GIVE_WAY = {
     "in_order": ("crates/soundness_deletes/proofs",),
     "same_answer": ("crates/ducklake/proofs",),
     "column_fits": ("crates/ducklake/proofs",),
+    "has_room": ("crates/catalog_fresh/proofs/Lent",),
     "first_next": ("crates/lists/proofs/Merges", "crates/expiry/proofs/Merged", "crates/row_deletion/proofs/Merging"),
 }
 

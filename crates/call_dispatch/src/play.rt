@@ -1,5 +1,5 @@
 ghost use Rattle.std.specs.Prelude.{◌≡◌, true, length};
-ghost use Rattle.layout.specs.Lent.{lent_now};
+ghost use Rattle.layout.specs.Lent.{mut_lent_now};
 ghost use Rattle.ducklake.specs.Calls.{Promised};
 ghost use Rattle.refusals.specs.Checked.{checked_of};
 ghost use Rattle.call_lists.specs.Calls.{perform_asked, asked_of, spans_fit};
@@ -44,7 +44,7 @@ pub fn play(
     area: &mut [u64],
 ) -> Outcome
     requires checked_value { checked ≡ checked_of
-        (lent_now snapshots schemas schema_names tables table_names columns column_names data_files delete_files positions statistics scheduled)
+        (mut_lent_now snapshots schemas schema_names tables table_names columns column_names data_files delete_files positions statistics scheduled)
         counts }
     requires call_value { spans_fit (length lists.now) (length names.now) call ≡ true }
     ensures { Promised (perform_asked (asked_of lists.now names.now call))

@@ -1,5 +1,5 @@
 ghost use Rattle.std.specs.Prelude.{◌≡◌};
-ghost use Rattle.layout.specs.Lent.{at_entry};
+ghost use Rattle.layout.specs.Lent.{read_at_entry};
 ghost use Rattle.ducklake.specs.Soundness.{first_unsound};
 
 use layout::outcome::Counts;
@@ -22,7 +22,7 @@ pub extern "C" fn catalog_first_unsound(
     scheduled: &[u64],
     counts: Counts,
 ) -> u64
-    ensures { result ≡ first_unsound (at_entry snapshots schemas schema_names tables table_names columns column_names
+    ensures { result ≡ first_unsound (read_at_entry snapshots schemas schema_names tables table_names columns column_names
         data_files delete_files positions statistics scheduled) counts }
 {
     first_unsound(

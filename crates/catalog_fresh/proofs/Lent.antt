@@ -32,9 +32,9 @@ pub fresh_stored : (w : Words) (time : ℕ) {ns ns' ss ss' xs xs' : List ℕ} �
 fresh_stored w time p q r a b d = fresh_words w time (rw p a) (rw q b) (rw r d)
 
 module _ {room : Counts} {ns ss xs : List ℕ} (l : FreshLent room ns ss xs) {b : Bool} (e : b ≡ within fresh_counts room) where
-  has_room : (time : ℕ) → b ≡ has_room l.words (fresh_catalog time)
+  has_room_lem : (time : ℕ) → b ≡ has_room l.words (fresh_catalog time)
   unfolding has_room
-  has_room time = e ∙ ap₂ within (sym (fresh_counts_lem time)) l.room
+  has_room_lem time = e ∙ ap₂ within (sym (fresh_counts_lem time)) l.room
 
   pub fresh_relies : not b ≡ false → FreshRoom ns ss xs
   fresh_relies h =
@@ -46,10 +46,10 @@ module _ {room : Counts} {ns ss xs : List ℕ} (l : FreshLent room ns ss xs) {b 
 
   module _ (time : ℕ) (c : Counts) (area : List ℕ) where
     pub fresh_refused : not b ≡ true → Promise (perform_fresh time l.words c area) (outcome no_room 0 0 c) (fresh_leaves l.words ns ss xs) area
-    fresh_refused h = promise_fresh_refused time l.words c area (failed (has_room time) h) (rw (← l.snapshots, ← l.schemas, ← l.schema_names) refl) refl
+    fresh_refused h = promise_fresh_refused time l.words c area (failed (has_room_lem time) h) (rw (← l.snapshots, ← l.schemas, ← l.schema_names) refl) refl
 
     pub fresh_done : {ns' ss' xs' : List ℕ} → not b ≡ false
         → ((w : Words) → w.snapshots ≡ ns → w.schemas ≡ ss → w.schema_names ≡ xs → fresh_leaves w ns' ss' xs' ≡ store w no_counts (fresh_catalog time))
         → Promise (perform_fresh time l.words c area) (outcome accepted 0 0 fresh_counts) (fresh_leaves l.words ns' ss' xs') area
     fresh_done h d =
-        promise_fresh_accepted time l.words c area (passed (has_room time) h) (sym (fresh_counts_lem time)) (d l.words l.snapshots l.schemas l.schema_names) refl
+        promise_fresh_accepted time l.words c area (passed (has_room_lem time) h) (sym (fresh_counts_lem time)) (d l.words l.snapshots l.schemas l.schema_names) refl

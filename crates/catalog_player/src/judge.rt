@@ -1,5 +1,5 @@
 ghost use Rattle.std.specs.Prelude.{◌≡◌};
-ghost use Rattle.layout.specs.Lent.{lent_now, at_entry};
+ghost use Rattle.layout.specs.Lent.{lent_now, read_at_entry};
 ghost use Rattle.refusals.specs.Checked.{checked_of};
 ghost use Rattle.catalog_player.specs.Lasting.{Lasting};
 
@@ -36,10 +36,10 @@ pub fn judge(
         (lent_now snapshots schemas schema_names tables table_names columns column_names data_files delete_files positions statistics scheduled)
         counts }
     ensures { (result.checked ≡ checked_of
-        (at_entry snapshots schemas schema_names tables table_names columns column_names data_files delete_files positions statistics scheduled)
+        (read_at_entry snapshots schemas schema_names tables table_names columns column_names data_files delete_files positions statistics scheduled)
         counts)
         × Lasting result
-        (at_entry snapshots schemas schema_names tables table_names columns column_names data_files delete_files positions statistics scheduled)
+        (read_at_entry snapshots schemas schema_names tables table_names columns column_names data_files delete_files positions statistics scheduled)
         counts }
 {
     if known.lasting {

@@ -1,5 +1,5 @@
-ghost use Rattle.layout.specs.Lent.{at_entry};
-ghost use Rattle.ducklake.specs.Calls.{Promised};
+ghost use Rattle.layout.specs.Lent.{read_at_entry};
+ghost use Rattle.ducklake.specs.Calls.{PromisedReading};
 ghost use Rattle.ducklake.specs.Lookup.{lookup, perform_lookup, LookupPromise};
 
 use file_lookup::copy::copy_file;
@@ -27,7 +27,7 @@ pub fn catalog_find_file<'a>(
     number: &mut u64,
 ) -> &'a [u64]
     ensures { LookupPromise
-        (lookup (at_entry snapshots schemas schema_names tables table_names columns column_names data_files delete_files
+        (lookup (read_at_entry snapshots schemas schema_names tables table_names columns column_names data_files delete_files
         positions statistics scheduled)
         counts id.0)
         data_files.entry delete_files.entry result number.new }
@@ -69,7 +69,7 @@ pub extern "C" fn catalog_copy_file<'a>(
     id: FileId,
     area: &mut [u64],
 ) -> Outcome
-    ensures { Promised (perform_lookup id.0)
+    ensures { PromisedReading (perform_lookup id.0)
         snapshots schemas schema_names tables table_names columns column_names data_files delete_files positions statistics scheduled
         counts area result }
 {

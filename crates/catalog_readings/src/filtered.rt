@@ -1,5 +1,5 @@
 ghost use Rattle.ducklake.specs.Readings.{Query};
-ghost use Rattle.ducklake.specs.Calls.{query_at, perform_reading, Promised};
+ghost use Rattle.ducklake.specs.Calls.{query_at, perform_reading, PromisedReading};
 
 use layout::number::{CatalogId, SnapshotId};
 use layout::outcome::{Counts, Outcome};
@@ -28,7 +28,7 @@ pub extern "C" fn catalog_list_filtered_files(
     scalar: i64,
     area: &mut [u64],
 ) -> Outcome
-    ensures { Promised (perform_reading (query_at snapshot.0 (Query.filtered_files table.0 column scalar)))
+    ensures { PromisedReading (perform_reading (query_at snapshot.0 (Query.filtered_files table.0 column scalar)))
         snapshots schemas schema_names tables table_names columns column_names data_files delete_files positions statistics scheduled
         counts area result }
 {

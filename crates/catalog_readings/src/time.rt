@@ -1,4 +1,4 @@
-ghost use Rattle.ducklake.specs.Calls.{by_time, perform_reading, Promised};
+ghost use Rattle.ducklake.specs.Calls.{by_time, perform_reading, PromisedReading};
 
 use layout::outcome::{Counts, Outcome};
 use listings::time::find_snapshot_by_time;
@@ -23,7 +23,7 @@ pub extern "C" fn catalog_snapshot_by_time(
     t: u64,
     area: &mut [u64],
 ) -> Outcome
-    ensures { Promised (perform_reading (by_time t))
+    ensures { PromisedReading (perform_reading (by_time t))
         snapshots schemas schema_names tables table_names columns column_names data_files delete_files positions statistics scheduled
         counts area result }
 {

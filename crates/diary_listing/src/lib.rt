@@ -1,6 +1,6 @@
 // The files of the table `diary` as text, a line each. The tables are checked once; the files are read and looked up in what was checked.
 ghost use Rattle.std.specs.Prelude.{◌+◌, ◌≤◌, length};
-ghost use Rattle.layout.specs.Lent.{lent_now, at_entry};
+ghost use Rattle.layout.specs.Lent.{lent_now, read_at_entry};
 ghost use Rattle.paths.specs.Text.{Written};
 ghost use Rattle.paths.specs.Lengths.{path_length};
 ghost use Rattle.file_lookup.specs.Runs.{FilesLent};
@@ -159,7 +159,7 @@ pub fn write_listing<'a>(
         counts area.old) }
     ensures { Written text.old 0
         (listing
-        (at_entry snapshots schemas schema_names tables table_names columns column_names data_files delete_files positions statistics scheduled)
+        (read_at_entry snapshots schemas schema_names tables table_names columns column_names data_files delete_files positions statistics scheduled)
         counts area.old)
         text.new result }
 {

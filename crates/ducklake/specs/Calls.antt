@@ -7,7 +7,7 @@ use Rattle.layout.specs.declared.outcome.Outcome.{Outcome}
 use Rattle.layout.specs.declared.outcome.Terms.{Terms}
 use Rattle.layout.specs.declared.record.Uuid.{Uuid}
 use Rattle.layout.specs.Catalog.{Catalog}
-use Rattle.layout.specs.Lent.{LentRun, at_entry, at_exit}
+use Rattle.layout.specs.Lent.{ReadRun, LentRun, at_entry, at_exit, read_at_entry, read_at_exit}
 use Rattle.layout.specs.Names.{is_name_argument, padded}
 use Rattle.layout.specs.Words.{Words, load, store, counts_of, capacity, within}
 use Rattle.ducklake.specs.Liveness.{retained, latest, latest_id, schemas_at, tables_at, columns_at, deleted_at, is_live, data_file_of_id}
@@ -217,3 +217,10 @@ abbrev pub Promised : (Words → Counts → List ℕ → Result)
 Promised call snapshots schemas schema_names tables table_names columns column_names data_files delete_files positions statistics scheduled counts area outcome =
     Promise (call (at_entry snapshots schemas schema_names tables table_names columns column_names data_files delete_files positions statistics scheduled) counts area.entry.now)
     outcome (at_exit snapshots schemas schema_names tables table_names columns column_names data_files delete_files positions statistics scheduled) area.exit.now
+
+-- The same of a reading, which is lent the runs to read alone
+abbrev pub PromisedReading : (Words → Counts → List ℕ → Result)
+    → ReadRun → ReadRun → ReadRun → ReadRun → ReadRun → ReadRun → ReadRun → ReadRun → ReadRun → ReadRun → ReadRun → ReadRun → Counts → LentRun → Outcome → Type 0
+PromisedReading call snapshots schemas schema_names tables table_names columns column_names data_files delete_files positions statistics scheduled counts area outcome =
+    Promise (call (read_at_entry snapshots schemas schema_names tables table_names columns column_names data_files delete_files positions statistics scheduled) counts area.entry.now)
+    outcome (read_at_exit snapshots schemas schema_names tables table_names columns column_names data_files delete_files positions statistics scheduled) area.exit.now

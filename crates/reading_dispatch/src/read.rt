@@ -1,6 +1,6 @@
 ghost use Rattle.std.specs.Prelude.{◌≡◌, ◌+◌, ◌≤◌, length};
 ghost use Rattle.layout.specs.Lent.{lent_now};
-ghost use Rattle.ducklake.specs.Calls.{Promised};
+ghost use Rattle.ducklake.specs.Calls.{PromisedReading};
 ghost use Rattle.ducklake.specs.Observed.{perform_request};
 ghost use Rattle.refusals.specs.Checked.{checked_of};
 ghost use Rattle.call_lists.specs.Calls.{question_of};
@@ -47,7 +47,7 @@ pub fn read<'a>(
         (lent_now snapshots schemas schema_names tables table_names columns column_names data_files delete_files positions statistics scheduled)
         counts }
     requires length_in_bounds { call.name.start + call.name.length ≤ length names.now }
-    ensures { Promised (perform_request (question_of names.now call))
+    ensures { PromisedReading (perform_request (question_of names.now call))
         snapshots schemas schema_names tables table_names columns column_names data_files delete_files positions statistics scheduled
         counts area result }
 {

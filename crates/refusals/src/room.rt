@@ -1,5 +1,5 @@
 ghost use Rattle.std.specs.Prelude.{◌≡◌, ◌+◌, ◌/◌, ◌<◌, min, leb};
-ghost use Rattle.layout.specs.Lent.{at_entry};
+ghost use Rattle.layout.specs.Lent.{read_at_entry};
 ghost use Rattle.layout.specs.Names.{name_size};
 ghost use Rattle.layout.specs.Words.{table_limit, capacity, within};
 ghost use Rattle.call_laws.specs.Writes.{add_counts};
@@ -54,7 +54,7 @@ pub fn capacity(
     statistics: &[u64],
     scheduled: &[u64],
 ) -> Counts
-    ensures { result ≡ capacity (at_entry snapshots schemas schema_names tables table_names columns column_names
+    ensures { result ≡ capacity (read_at_entry snapshots schemas schema_names tables table_names columns column_names
         data_files delete_files positions statistics scheduled) }
 {
     Counts {

@@ -1,5 +1,5 @@
 ghost use Rattle.std.specs.Prelude.{◌≡◌, List, ℕ};
-ghost use Rattle.layout.specs.Lent.{lent_now, at_entry, at_exit};
+ghost use Rattle.layout.specs.Lent.{at_entry, at_exit, mut_lent_now};
 ghost use Rattle.ducklake.specs.Calls.{expire_snapshots, perform, Promise};
 ghost use Rattle.refusals.specs.Checked.{checked_of};
 
@@ -32,7 +32,7 @@ pub fn expire_snapshots(
     time: u64,
 ) -> Outcome
     requires { checked ≡ checked_of
-        (lent_now snapshots schemas schema_names tables table_names columns column_names data_files delete_files positions statistics scheduled)
+        (mut_lent_now snapshots schemas schema_names tables table_names columns column_names data_files delete_files positions statistics scheduled)
         counts }
     ensures { (area : List ℕ) → Promise (perform (expire_snapshots ids.now time)
         (at_entry snapshots schemas schema_names tables table_names columns column_names data_files delete_files positions statistics scheduled)

@@ -1,5 +1,5 @@
 ghost use Rattle.std.specs.Prelude.{◌≡◌, true};
-ghost use Rattle.layout.specs.Lent.{at_entry, lent_now};
+ghost use Rattle.layout.specs.Lent.{lent_now, read_at_entry};
 ghost use Rattle.layout.specs.Words.{table_limit, capacity, within};
 ghost use Rattle.ducklake.specs.Soundness.{first_unsound};
 ghost use Rattle.soundness.specs.Scratch.{none_above, few_records, some_records, Scratch};
@@ -63,7 +63,7 @@ fn unsound_by(
     requires { (within counts (capacity (lent_now snapshots schemas schema_names tables table_names columns column_names
         data_files delete_files positions statistics scheduled)) ≡ true)
         × Scratch counts keys.old w.old v.old u.old }
-    ensures { result ≡ first_unsound (at_entry snapshots schemas schema_names tables table_names columns column_names
+    ensures { result ≡ first_unsound (read_at_entry snapshots schemas schema_names tables table_names columns column_names
         data_files delete_files positions statistics scheduled) counts }
 {
     let scale = fill_hints(
@@ -170,7 +170,7 @@ fn few_unsound(
     requires { (within counts (capacity (lent_now snapshots schemas schema_names tables table_names columns column_names
         data_files delete_files positions statistics scheduled)) ≡ true)
         × (none_above counts few_records ≡ true) }
-    ensures { result ≡ first_unsound (at_entry snapshots schemas schema_names tables table_names columns column_names
+    ensures { result ≡ first_unsound (read_at_entry snapshots schemas schema_names tables table_names columns column_names
         data_files delete_files positions statistics scheduled) counts }
 {
     let mut keys = [0u64; 6 * FEW_RECORDS];
@@ -228,7 +228,7 @@ fn some_unsound(
     requires { (within counts (capacity (lent_now snapshots schemas schema_names tables table_names columns column_names
         data_files delete_files positions statistics scheduled)) ≡ true)
         × (none_above counts some_records ≡ true) }
-    ensures { result ≡ first_unsound (at_entry snapshots schemas schema_names tables table_names columns column_names
+    ensures { result ≡ first_unsound (read_at_entry snapshots schemas schema_names tables table_names columns column_names
         data_files delete_files positions statistics scheduled) counts }
 {
     let mut keys = [0u64; 6 * SOME_RECORDS];
@@ -286,7 +286,7 @@ fn all_unsound(
     requires { (within counts (capacity (lent_now snapshots schemas schema_names tables table_names columns column_names
         data_files delete_files positions statistics scheduled)) ≡ true)
         × (none_above counts table_limit ≡ true) }
-    ensures { result ≡ first_unsound (at_entry snapshots schemas schema_names tables table_names columns column_names
+    ensures { result ≡ first_unsound (read_at_entry snapshots schemas schema_names tables table_names columns column_names
         data_files delete_files positions statistics scheduled) counts }
 {
     let mut keys = [0u64; 6 * TABLE_LIMIT];
@@ -342,7 +342,7 @@ pub fn first_unsound(
     scheduled: &[u64],
     counts: Counts,
 ) -> u64
-    ensures { result ≡ first_unsound (at_entry snapshots schemas schema_names tables table_names columns column_names
+    ensures { result ≡ first_unsound (read_at_entry snapshots schemas schema_names tables table_names columns column_names
         data_files delete_files positions statistics scheduled) counts }
 {
     let room = capacity(

@@ -1,5 +1,5 @@
 ghost use Rattle.std.specs.Prelude.{◌≡◌};
-ghost use Rattle.layout.specs.Lent.{at_entry};
+ghost use Rattle.layout.specs.Lent.{read_at_entry};
 ghost use Rattle.refusals.specs.Checked.{checked_of};
 
 use crate::check::first_unsound;
@@ -24,7 +24,7 @@ pub fn check(
     scheduled: &[u64],
     counts: Counts,
 ) -> Checked
-    ensures { result ≡ checked_of (at_entry snapshots schemas schema_names tables table_names columns column_names
+    ensures { result ≡ checked_of (read_at_entry snapshots schemas schema_names tables table_names columns column_names
         data_files delete_files positions statistics scheduled) counts }
 {
     let room = capacity(

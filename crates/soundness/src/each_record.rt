@@ -1,6 +1,6 @@
 // The lines that look at each record by itself.
 ghost use Rattle.std.specs.Prelude.{◌≡◌, true, ◌<◌};
-ghost use Rattle.layout.specs.Lent.{at_entry, lent_now};
+ghost use Rattle.layout.specs.Lent.{lent_now, read_at_entry};
 ghost use Rattle.layout.specs.Words.{capacity, within};
 ghost use Rattle.soundness.specs.Told.{Tells};
 
@@ -34,7 +34,7 @@ pub fn records_unsound(
     requires { (within counts (capacity (lent_now snapshots schemas schema_names tables table_names columns column_names
         data_files delete_files positions statistics scheduled)) ≡ true)
         × (scale.shift < 64) }
-    ensures { Tells (at_entry snapshots schemas schema_names tables table_names columns column_names
+    ensures { Tells (read_at_entry snapshots schemas schema_names tables table_names columns column_names
         data_files delete_files positions statistics scheduled) counts result }
 {
     let fields = fields_in_range(

@@ -1,6 +1,6 @@
 // The lines that set records against each other.
 ghost use Rattle.std.specs.Prelude.{◌≡◌, ◌&&◌};
-ghost use Rattle.layout.specs.Lent.{at_entry, lent_now};
+ghost use Rattle.layout.specs.Lent.{lent_now, read_at_entry};
 ghost use Rattle.layout.specs.Words.{load};
 ghost use Rattle.ducklake.specs.Soundness.{positions_add_up, deletes_sound, first_unsound};
 ghost use Rattle.soundness.specs.Scratch.{RecordsHold, Scratch};
@@ -53,9 +53,9 @@ fn deletes_add_up(
     requires { RecordsHold (lent_now snapshots schemas schema_names tables table_names columns column_names
         data_files delete_files positions statistics scheduled) counts
         × Scratch counts keys.old w.old v.old u.old }
-    ensures { result ≡ (positions_add_up (at_entry snapshots schemas schema_names tables table_names columns column_names
+    ensures { result ≡ (positions_add_up (read_at_entry snapshots schemas schema_names tables table_names columns column_names
         data_files delete_files positions statistics scheduled) counts
-        && deletes_sound (load (at_entry snapshots schemas schema_names tables table_names columns column_names
+        && deletes_sound (load (read_at_entry snapshots schemas schema_names tables table_names columns column_names
         data_files delete_files positions statistics scheduled) counts)) }
 {
     let summed = positions_add_up(delete_files, counts.delete_files, counts.positions);
@@ -100,7 +100,7 @@ pub fn compare(
     requires { RecordsHold (lent_now snapshots schemas schema_names tables table_names columns column_names
         data_files delete_files positions statistics scheduled) counts
         × Scratch counts keys.old w.old v.old u.old }
-    ensures { Compares (at_entry snapshots schemas schema_names tables table_names columns column_names
+    ensures { Compares (read_at_entry snapshots schemas schema_names tables table_names columns column_names
         data_files delete_files positions statistics scheduled) counts result }
 {
     let distinct = files_distinct(data_files, delete_files, scheduled, counts, keys, w, v);
@@ -171,7 +171,7 @@ pub fn relations_unsound(
         data_files delete_files positions statistics scheduled) counts
         × Compares (lent_now snapshots schemas schema_names tables table_names columns column_names
         data_files delete_files positions statistics scheduled) counts compared }
-    ensures { result ≡ first_unsound (at_entry snapshots schemas schema_names tables table_names columns column_names
+    ensures { result ≡ first_unsound (read_at_entry snapshots schemas schema_names tables table_names columns column_names
         data_files delete_files positions statistics scheduled) counts }
 {
     if !compared.distinct {
