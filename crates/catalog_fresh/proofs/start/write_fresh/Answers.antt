@@ -1,0 +1,8 @@
+-- `write_fresh` meets its contract: the two records and the name are those of the fresh catalogue.
+use borrow.Author.Rules.{rules}
+use Rattle.catalog_fresh.proofs.Lent.{fresh_stored}
+use Rattle.catalog_fresh.proofs.start.write_fresh.Goals as goal
+
+pub returns : goal.returns
+returns c w p q r =
+    fresh_stored w _ p q r c.write_snapshot.ensures c.write_schema.ensures c.write_name.ensures

@@ -1,0 +1,37 @@
+-- `table_name_is_free` meets its contract: the loop goes on while no table of the schema takes the name.
+use borrow.Author.Rules.{rules}
+use Prim.Native.Nat.{ℕ, ◌-◌, ◌≤◌}
+use mathlib.Core.Path.{◌≡◌, sym, ap, ◌∙◌}
+use mathlib.Core.Bool.{Bool, not, ◌&&◌}
+use mathlib.Core.List.{List}
+use native.Mathlib.Omega.{arith}
+use lib.Dec.{eqb}
+use Rattle.lists.specs.Lists.{all, any}
+use Rattle.lists.specs.Runs.{from}
+use Rattle.lists.proofs.Loops.{all_start, all_pass, all_fail, all_end}
+use Rattle.layout.specs.Catalog.{Versioned, Table}
+use Rattle.layout.specs.Names.{padded}
+use Rattle.layout.specs.Words.{table_at, tables_in}
+use Rattle.ducklake.specs.Arguments.{clashes}
+use Rattle.ducklake.specs.Liveness.{live, tables_at}
+use Rattle.commits.proofs.Lives.{none_live}
+use Rattle.commits.proofs.name.table_name_is_free.Invariants.{leaves}
+use Rattle.commits.proofs.name.table_name_is_free.Goals as goal
+
+pub loop-i-init : goal.loop-i-init
+unfolding tables_at
+loop-i-init c = (omega arith, none_live _ _ _ ∙ all_start _ _ _)
+
+pub table_takes_name-taken-requires : goal.table_takes_name-taken-requires
+table_takes_name-taken-requires c = (c.requires, c.loop-i-test.true)
+
+pub returns-then-taken : goal.returns-then-taken
+returns-then-taken c =
+    sym (c.loop-i.invariant.1 ∙ all_fail _ _ _ _ c.loop-i-test.true (ap not (sym c.table_takes_name-taken.ensures ∙ c.if-taken.true)))
+
+pub loop-i-preserved : goal.loop-i-preserved
+loop-i-preserved c =
+    (omega arith, c.loop-i.invariant.1 ∙ all_pass _ _ _ _ c.loop-i-test.true (ap not (sym c.table_takes_name-taken.ensures ∙ c.if-taken.false)))
+
+pub returns : goal.returns
+returns c = sym (c.loop-i.invariant.1 ∙ all_end _ _ _ _ c.loop-i-test.false)

@@ -1,0 +1,16 @@
+-- `flag_live` meets its contract: each turn sets the flag of its place.
+use borrow.Author.Rules.{rules}
+use Prim.Native.Nat.{◌≤◌, ◌-◌}
+use mathlib.Core.Path.{◌≡◌}
+use native.Mathlib.Omega.{arith}
+use lib.ListN.{length}
+use Rattle.lists.specs.Pieces.{Flags}
+use Rattle.lists.proofs.Flags.{flags_start, flags_next}
+use Rattle.expiry.specs.Remaining.{ids_in, stays}
+use Rattle.expiry.proofs.flag.flag_live.Given as goal
+
+abbrev pub invariant-loop-i : goal.invariant-loop-i
+invariant-loop-i l = (l.i ≤ l.n) × (length l.flags ≡ length l.initial.flags) × Flags (stays l.size l.life l.w (ids_in l.left l.m)) l.i l.flags
+
+abbrev pub decreases-loop-i : goal.decreases-loop-i
+decreases-loop-i l = l.n - l.i

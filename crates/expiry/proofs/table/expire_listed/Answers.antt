@@ -1,0 +1,8 @@
+-- `expire_listed` meets its contract: the flags are those of what stays.
+use borrow.Author.Rules.{rules}
+use Rattle.lists.proofs.Flags.{compacted_as}
+use Rattle.expiry.proofs.table.expire_listed.Goals as goal
+
+pub returns : goal.returns
+returns c =
+    compacted_as _ (λ j h. c.flag_snapshots.ensures.set j h) c.keep_records.ensures

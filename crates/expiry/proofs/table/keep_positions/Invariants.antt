@@ -1,0 +1,18 @@
+-- `keep_positions` meets its contract: each turn moves the positions of its delete file down, if it stays; the rest is cleared.
+use borrow.Author.Rules.{rules}
+use Prim.Native.Nat.{◌≤◌, ◌+◌, ◌-◌}
+use mathlib.Core.Path.{◌≡◌, refl, sym, ap, ◌∙◌}
+use native.Mathlib.Omega.{arith}
+use lib.ListN.{length}
+use Rattle.lists.specs.Pieces.{flagged}
+use Rattle.lists.proofs.Compaction.{compacted, next_start, piece_fits, end_fits, compacted_pass, compacted_fail, compacted_done}
+use Rattle.layout.specs.Words.{positions_before, positions_first, position_pieces}
+use Rattle.expiry.proofs.table.keep_positions.Given as goal
+
+abbrev pub invariant-loop-i : goal.invariant-loop-i
+invariant-loop-i l =
+    (l.k ≤ l.at) × (l.at ≡ positions_before l.delete_files l.i) × (l.i ≤ l.n) × (length l.positions ≡ length l.initial.positions)
+    × (compacted (position_pieces l.delete_files) (flagged l.flags) l.n l.initial.positions 0 0 ≡ compacted (position_pieces l.delete_files) (flagged l.flags) l.n l.positions l.k l.i)
+
+abbrev pub decreases-loop-i : goal.decreases-loop-i
+decreases-loop-i l = l.n - l.i

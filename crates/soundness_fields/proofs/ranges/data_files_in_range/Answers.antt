@@ -1,0 +1,24 @@
+-- `data_files_in_range` meets its contract: the loop tests each data file.
+use borrow.Author.Rules.{rules}
+use Prim.Native.Nat.{◌-◌}
+use mathlib.Core.Path.{◌≡◌, sym, ◌∙◌}
+use Rattle.lists.specs.Lists.{all}
+use Rattle.lists.specs.Runs.{from}
+use Rattle.lists.proofs.Loops.{all_start, all_passed, all_failed, all_end}
+use Rattle.layout.specs.Words.{data_file_at, data_files_in}
+use Rattle.ducklake.specs.Soundness.{data_file_in_range}
+use Rattle.soundness_fields.proofs.ranges.data_files_in_range.Goals as goal
+
+pub loop-i-init : goal.loop-i-init
+loop-i-init c = all_start _ _ _
+
+pub returns-then-not-ok : goal.returns-then-not-ok
+returns-then-not-ok c =
+    sym (c.loop-i.invariant ∙ all_failed _ _ _ _ c.loop-i-test.true c.data_file_in_range-ok.ensures c.if-not-ok.true-raw)
+
+pub loop-i-preserved : goal.loop-i-preserved
+loop-i-preserved c =
+    c.loop-i.invariant ∙ all_passed _ _ _ _ c.loop-i-test.true c.data_file_in_range-ok.ensures c.if-not-ok.false-raw
+
+pub returns : goal.returns
+returns c = sym (c.loop-i.invariant ∙ all_end _ _ _ _ c.loop-i-test.false)

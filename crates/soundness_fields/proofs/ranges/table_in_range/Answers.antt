@@ -1,0 +1,9 @@
+-- `table_in_range` meets its contract: it tests the fields that the definition does.
+use borrow.Author.Rules.{rules}
+use Rattle.ducklake.specs.Soundness.{table_in_range}
+use Rattle.soundness_fields.proofs.ranges.table_in_range.Goals as goal
+
+pub returns : goal.returns
+unfolding table_in_range
+returns c =
+    rw (c.is_name-name.ensures, c.table_at-t.ensures)
