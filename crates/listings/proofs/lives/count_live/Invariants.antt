@@ -1,0 +1,19 @@
+-- `count_live` meets its contract: the loop counts the records that are live.
+use borrow.Author.Rules.{rules}
+use Prim.Native.Nat.{◌≤◌, ◌-◌}
+use mathlib.Core.Path.{◌≡◌, sym, ◌∙◌}
+use native.Mathlib.Omega.{arith}
+use lib.ListN.{length}
+use Rattle.lists.proofs.Runs.{record_fits}
+use Rattle.lists.proofs.Loops.{counted, counted_from, counted_pass, counted_fail, counted_end}
+use Rattle.ducklake.specs.Liveness.{live}
+use Rattle.lookup.specs.Versions.{life_at, with_life}
+use Rattle.listings.specs.Places.{places_live}
+use Rattle.listings.proofs.lives.count_live.Given as goal
+
+abbrev pub invariant-loop-i : goal.invariant-loop-i
+invariant-loop-i l =
+    (l.k ≤ l.i) × (length (places_live l.size l.begin l.run l.s.0 l.start l.end) ≡ counted (λ i. i) (λ i. live l.s.0 (with_life (life_at l.size l.begin l.run i))) l.end l.k l.i)
+
+abbrev pub decreases-loop-i : goal.decreases-loop-i
+decreases-loop-i l = l.end - l.i

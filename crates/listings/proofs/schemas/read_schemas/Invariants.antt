@@ -1,0 +1,22 @@
+-- `read_schemas` meets its contract: the loop tests each schema as the definition does, and writes the ids of those that pass one behind the other: there is room for all of them.
+use borrow.Author.Rules.{rules}
+use Prim.Native.Nat.{ℕ, ◌≤◌, ◌-◌}
+use mathlib.Core.Path.{◌≡◌, refl, sym, ap, ◌∙◌}
+use mathlib.Core.List.{List, []}
+use native.Mathlib.Omega.{arith}
+use lib.ListN.{length, length-set, length-map}
+use Rattle.lists.proofs.Loops.{counted, counted_start, counted_pass, counted_fail, counted_room, sent, sent_start, sent_pass, sent_fail, sent_end}
+use Rattle.readings.proofs.AnswerAreas.{answered_short, answered_whole}
+use Rattle.layout.specs.Words.{schema_at, schemas_in}
+use Rattle.ducklake.specs.Liveness.{live, schemas_at}
+use Rattle.listings.proofs.Blocks.{schema_live, schemas_counted}
+use Rattle.listings.proofs.schemas.read_schemas.Given as goal
+
+abbrev pub invariant-loop-i : goal.invariant-loop-i
+invariant-loop-i l =
+    (l.k ≤ l.i) × (l.i ≤ l.n) × (length l.area ≡ length l.initial.area)
+    × ((names : List ℕ) → length (schemas_at (schemas_in l.schemas names l.n) l.s.0) ≡ counted (schema_at l.schemas names) (live l.s.0) l.n l.k l.i)
+    × ((names : List ℕ) → sent (schema_at l.schemas names) (live l.s.0) l.n (λ v. v.id) l.initial.area 0 0 ≡ sent (schema_at l.schemas names) (live l.s.0) l.n (λ v. v.id) l.area l.k l.i)
+
+abbrev pub decreases-loop-i : goal.decreases-loop-i
+decreases-loop-i l = l.n - l.i

@@ -1,0 +1,19 @@
+-- The loop tests each table as the definition does, and counts those that pass.
+use borrow.Author.Rules.{rules}
+use Prim.Native.Nat.{ℕ, ◌≤◌, ◌-◌}
+use mathlib.Core.Path.{◌≡◌, sym, ◌∙◌}
+use mathlib.Core.List.{List}
+use native.Mathlib.Omega.{arith}
+use lib.ListN.{length}
+use Rattle.lists.proofs.Loops.{counted, counted_start, counted_pass, counted_fail, counted_end}
+use Rattle.layout.specs.Words.{table_at, tables_in}
+use Rattle.ducklake.specs.Liveness.{tables_at}
+use Rattle.listings.specs.Tests.{in_schema}
+use Rattle.listings.proofs.tables.count_tables.Given as goal
+
+abbrev pub invariant-loop-i : goal.invariant-loop-i
+invariant-loop-i l =
+    (l.k ≤ l.i) × (l.i ≤ l.n) × ((names : List ℕ) → length (tables_at (tables_in l.tables names l.n) l.s.0 l.schema.0) ≡ counted (table_at l.tables names) (in_schema l.schema.0 l.s.0) l.n l.k l.i)
+
+abbrev pub decreases-loop-i : goal.decreases-loop-i
+decreases-loop-i l = l.n - l.i

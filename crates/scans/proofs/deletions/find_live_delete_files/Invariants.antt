@@ -1,0 +1,14 @@
+-- From the last delete file to the first: what has been found is the first one, for each data file, of those passed.
+use borrow.Author.Rules.{rules}
+use Prim.Native.Nat.{◌-◌, ◌≤◌}
+use mathlib.Core.Path.{◌≡◌, refl, ap, ◌∙◌}
+use native.Mathlib.Omega.{arith}
+use lib.ListN.{length}
+use Rattle.scans.proofs.LiveDeletes.{FoundFrom, found_start, found_live, found_ended, found_end}
+use Rattle.scans.proofs.deletions.find_live_delete_files.Given as goal
+
+abbrev pub invariant-loop-j : goal.invariant-loop-j
+invariant-loop-j l = (l.j ≤ l.m) × (length l.places ≡ length l.initial.places) × FoundFrom l.data_files l.n l.delete_files l.m l.s.0 l.places l.j
+
+abbrev pub decreases-loop-j : goal.decreases-loop-j
+decreases-loop-j l = l.j

@@ -1,0 +1,29 @@
+-- The loop counts the data files that pass both tests.
+use borrow.Author.Rules.{rules}
+use Prim.Native.Nat.{◌≤◌, ◌-◌}
+use mathlib.Core.Path.{◌≡◌, sym, ap, ◌∙◌}
+use native.Mathlib.Omega.{arith}
+use lib.ListN.{length}
+use Rattle.lists.proofs.Loops.{counted, counted_start, counted_pass, counted_fail, counted_end}
+use Rattle.layout.specs.Words.{data_file_at, data_files_in, statistics_in}
+use Rattle.scans.specs.Filters.{is_read, files_read}
+use Rattle.scans.proofs.FileLists.{read_both}
+use Rattle.scans.proofs.files.count_files.Goals as goal
+
+pub loop-i-init : goal.loop-i-init
+loop-i-init c =
+    let a = c.args in
+    (omega arith, omega arith, ap length (read_both a.filter (statistics_in a.statistics.now a.q) (data_files_in a.data_files.now a.n) a.s.0 a.table.0) ∙ counted_start _ _ _)
+
+pub loop-i-preserved-then-read : goal.loop-i-preserved-then-read
+loop-i-preserved-then-read c =
+    let h = c.loop-i in
+    (omega arith, omega arith, h.invariant.2 ∙ counted_pass _ _ _ _ _ c.loop-i-test.true (sym c.is_read-read.ensures ∙ c.if-read.true))
+
+pub loop-i-preserved : goal.loop-i-preserved
+loop-i-preserved c =
+    let h = c.loop-i in
+    (omega arith, omega arith, h.invariant.2 ∙ counted_fail _ _ _ _ _ c.loop-i-test.true (sym c.is_read-read.ensures ∙ c.if-read.false))
+
+pub returns : goal.returns
+returns c = (omega arith, sym (c.loop-i.invariant.2 ∙ counted_end _ _ _ _ _ c.loop-i-test.false))

@@ -1,0 +1,19 @@
+-- The loop counts the data files that pass both tests.
+use borrow.Author.Rules.{rules}
+use Prim.Native.Nat.{◌≤◌, ◌-◌}
+use mathlib.Core.Path.{◌≡◌, sym, ap, ◌∙◌}
+use native.Mathlib.Omega.{arith}
+use lib.ListN.{length}
+use Rattle.lists.proofs.Loops.{counted, counted_start, counted_pass, counted_fail, counted_end}
+use Rattle.layout.specs.Words.{data_file_at, data_files_in, statistics_in}
+use Rattle.scans.specs.Filters.{is_read, files_read}
+use Rattle.scans.proofs.FileLists.{read_both}
+use Rattle.scans.proofs.files.count_files.Given as goal
+
+abbrev pub invariant-loop-i : goal.invariant-loop-i
+invariant-loop-i l =
+    (l.k ≤ l.i) × (l.i ≤ l.n) × (length (files_read l.filter (statistics_in l.statistics l.q) (data_files_in l.data_files l.n) l.s.0 l.table.0)
+    ≡ counted (data_file_at l.data_files) (is_read l.filter (statistics_in l.statistics l.q) l.table.0 l.s.0) l.n l.k l.i)
+
+abbrev pub decreases-loop-i : goal.decreases-loop-i
+decreases-loop-i l = l.n - l.i

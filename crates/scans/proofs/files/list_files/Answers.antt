@@ -1,0 +1,51 @@
+-- The loop lays the two words of each file that is read behind those of the files before it.
+use borrow.Author.Rules.{rules}
+use Prim.Native.Nat.{◌≤◌, ◌+◌, ◌-◌}
+use mathlib.Core.Path.{refl}
+use native.Mathlib.Omega.{arith}
+use lib.ListN.{length}
+use Rattle.scans.specs.Filters.{listed_size}
+use Rattle.scans.proofs.FileLists.{Listing, place-within, listed_is, listing_room, listing_pass, listing_fail, listing_end}
+use Rattle.scans.proofs.files.list_files.Goals as goal
+
+-- the next file that is read has room behind those laid
+has_room : (c : tie.Then1 invariant-loop decreases-loop) → let head : tie.At-loop invariant-loop decreases-loop = search in head.loop.k + listed_size ≤ length head.loop.area
+has_room c =
+    let turn : tie.In-loop invariant-loop decreases-loop = search in
+    listing_room _ _ _ _ _ _ _ _ _ turn.before.loop.inv.1 turn.loop-test.taken c.before.is_read_lem.ensures c.if1.true
+
+pub loop-i-init : goal.loop-i-init
+loop-i-init c =
+    (omega arith, record { long = refl; room = c.requires.1; same = λ positions. refl })
+
+pub bounds-places-at : goal.bounds-places-at
+bounds-places-at c =
+    omega (arith, c.requires.0.1.room)
+
+pub write_listed-requires : goal.write_listed-requires
+write_listed-requires c =
+    let p = c.requires.0 in
+    (omega (arith, p.0.lent), omega (arith, p.2, place-within _ _ _ _ _ _ p.1 _ c.loop-i-test.true), has_room c)
+
+pub overflow_add-k : goal.overflow_add-k
+overflow_add-k c =
+    omega (arith, has_room c, c.loop-i.invariant.1.long, c.good.1.1.1.1.1.1.1.1.1.1.1.1.0.0)
+
+pub loop-i-preserved-then-read : goal.loop-i-preserved-then-read
+loop-i-preserved-then-read c =
+    let w = c.write_listed in
+    let g = c.loop-i-test.true in (
+      omega arith,
+      listing_pass _ _ _ _ _ _ _ _ _ c.loop-i.invariant.1 g c.is_read-read.ensures _ c.if-read.true w.kept.1.1.1.1.0 w.ensures
+          (λ positions. listed_is _ _ _ _ _ _ c.requires.0.1 positions _ g),
+    )
+
+pub loop-i-preserved : goal.loop-i-preserved
+loop-i-preserved c =
+    (omega arith, listing_fail _ _ _ _ _ _ _ _ _ c.loop-i.invariant.1 c.loop-i-test.true c.is_read-read.ensures c.if-read.false)
+
+pub shape_of-area : goal.shape_of-area
+shape_of-area c = c.loop-i.invariant.1.long
+
+pub returns : goal.returns
+returns c positions = listing_end _ _ _ _ _ _ _ _ _ c.loop-i.invariant.1 c.loop-i-test.false positions

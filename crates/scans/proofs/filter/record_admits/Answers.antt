@@ -1,0 +1,11 @@
+-- The test is that of the definition, over the signed numbers that the words stand for.
+use borrow.Author.Rules.{rules}
+use mathlib.Core.Path.{◌∙◌}
+use mir.Facts.{to_z-of_z}
+use Rattle.scans.proofs.Statistics.{admits_is}
+use Rattle.scans.proofs.filter.record_admits.Goals as goal
+
+pub returns : goal.returns
+returns c =
+    admits_is c.args.x (to_z-of_z {z = c.to_signed-min.result} (record { sfits = c.to_signed-min.type-inv }) ∙ c.to_signed-min.ensures)
+    (to_z-of_z {z = c.to_signed-max.result} (record { sfits = c.to_signed-max.type-inv }) ∙ c.to_signed-max.ensures) (to_z-of_z c.ranges.scalar)

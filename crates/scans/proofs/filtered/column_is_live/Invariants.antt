@@ -1,0 +1,19 @@
+-- The columns of a table stand together: one of that id that is live is among them or nowhere.
+use borrow.Author.Rules.{rules}
+use Prim.Native.Nat.{ℕ, ◌≤◌, ◌-◌}
+use mathlib.Core.Path.{◌≡◌, refl, sym, ◌∙◌}
+use mathlib.Core.List.{List}
+use native.Mathlib.Omega.{arith}
+use Rattle.lists.specs.Lists.{any}
+use Rattle.lists.specs.Runs.{from}
+use Rattle.layout.specs.Words.{column_at}
+use Rattle.scans.proofs.Columns.{is_column, column_block, column_tested}
+use Rattle.scans.proofs.Statistics.{any_here, any_past, any_over}
+use Rattle.scans.proofs.filtered.column_is_live.Given as goal
+
+abbrev pub invariant-loop-i : goal.invariant-loop-i
+invariant-loop-i l =
+    (l.i ≤ l.end) × ((names : List ℕ) → any (is_column l.column l.s.0) (from (column_at l.columns names) l.initial.i l.end) ≡ any (is_column l.column l.s.0) (from (column_at l.columns names) l.i l.end))
+
+abbrev pub decreases-loop-i : goal.decreases-loop-i
+decreases-loop-i l = l.end - l.i

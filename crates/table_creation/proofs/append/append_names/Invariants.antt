@@ -1,0 +1,20 @@
+-- `append_names` meets its contract: each byte of the name places is written in turn.
+use borrow.Author.Rules.{rules}
+use Prim.Native.Nat.{◌+◌, ◌*◌, ◌-◌, ◌≤◌}
+use mathlib.Core.Path.{◌≡◌, refl, sym, ◌∙◌}
+use native.Mathlib.Nat.{add-zero}
+use native.Mathlib.Omega.{arith}
+use lib.ListN.{length, drop, length-set, drop_of_length-le}
+use Rattle.lists.specs.Runs.{overwrite}
+use Rattle.lists.proofs.Runs.{overwrite_none}
+use Rattle.lists.proofs.Windows.{rest_step, overwrite_next}
+use Rattle.layout.specs.Names.{name_size}
+use Rattle.table_creation.proofs.append.append_names.Given as goal
+
+-- the bytes from k on are still to be written
+abbrev pub invariant-loop-k : goal.invariant-loop-k
+invariant-loop-k l =
+    (l.k ≤ l.m) × (length l.names ≡ length l.initial.names) × (overwrite l.initial.names (name_size * l.n) l.new_names ≡ overwrite l.names (name_size * l.n + l.k) (drop l.k l.new_names))
+
+abbrev pub decreases-loop-k : goal.decreases-loop-k
+decreases-loop-k l = l.m - l.k

@@ -1,0 +1,25 @@
+-- `each_column_fits` meets its contract: the loop goes on while the columns are well formed.
+use borrow.Author.Rules.{rules}
+use Prim.Native.Nat.{ℕ, ◌-◌, ◌≤◌}
+use mathlib.Core.Path.{◌≡◌, sym, ◌∙◌}
+use mathlib.Core.List.{map}
+use native.Mathlib.Omega.{arith}
+use Rattle.lists.specs.Lists.{range, all}
+use Rattle.lists.specs.Runs.{from}
+use Rattle.lists.proofs.Loops.{all_start, all_passed, all_failed, all_end}
+use Rattle.ducklake.specs.Arguments.{column_argument, column_fits}
+use Rattle.table_creation.proofs.columns.each_column_fits.Goals as goal
+
+pub loop-i-init : goal.loop-i-init
+loop-i-init c = (omega arith, λ table. all_start _ _ _)
+
+pub returns-then-not-ok : goal.returns-then-not-ok
+returns-then-not-ok c table =
+    sym (c.loop-i.invariant.1 table ∙ all_failed _ _ _ _ c.loop-i-test.true (c.column_fits-ok.ensures table) c.if-not-ok.true-raw)
+
+pub loop-i-preserved : goal.loop-i-preserved
+loop-i-preserved c =
+    (omega arith, λ table. c.loop-i.invariant.1 table ∙ all_passed _ _ _ _ c.loop-i-test.true (c.column_fits-ok.ensures table) c.if-not-ok.false-raw)
+
+pub returns : goal.returns
+returns c table = sym (c.loop-i.invariant.1 table ∙ all_end _ _ _ _ c.loop-i-test.false)

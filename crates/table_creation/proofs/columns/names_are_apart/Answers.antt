@@ -1,0 +1,29 @@
+-- `names_are_apart` meets its contract: the loop compares each name with the later ones.
+use borrow.Author.Rules.{rules}
+use Prim.Native.Nat.{ℕ, ◌-◌, ◌≤◌}
+use mathlib.Core.Path.{◌≡◌, sym, ◌∙◌}
+use mathlib.Core.Bool.{Bool, not}
+use mathlib.Core.List.{List, map}
+use native.Mathlib.Omega.{arith}
+use Rattle.lists.specs.Lists.{range, pairwise}
+use Rattle.lists.specs.Runs.{from}
+use Rattle.lists.proofs.Loops.{pairwise_start, pairwise_pass, pairwise_fail, pairwise_end}
+use Rattle.lists.proofs.Tests.{passed, failed}
+use Rattle.layout.specs.Catalog.{Column}
+use Rattle.ducklake.specs.Arguments.{clashes, column_argument}
+use Rattle.table_creation.proofs.columns.names_are_apart.Invariants.{apart}
+use Rattle.table_creation.proofs.columns.names_are_apart.Goals as goal
+
+pub loop-i-init : goal.loop-i-init
+loop-i-init c = (omega arith, λ table words. pairwise_start _ _ _)
+
+pub returns-then-not-ok : goal.returns-then-not-ok
+returns-then-not-ok c table words =
+    sym (c.loop-i.invariant.1 table words ∙ pairwise_fail _ _ _ _ c.loop-i-test.true (failed (c.name_is_apart-ok.ensures table words) c.if-not-ok.true-raw))
+
+pub loop-i-preserved : goal.loop-i-preserved
+loop-i-preserved c =
+    (omega arith, λ table words. c.loop-i.invariant.1 table words ∙ pairwise_pass _ _ _ _ c.loop-i-test.true (passed (c.name_is_apart-ok.ensures table words) c.if-not-ok.false-raw))
+
+pub returns : goal.returns
+returns c table words = sym (c.loop-i.invariant.1 table words ∙ pairwise_end _ _ _ _ c.loop-i-test.false)
