@@ -31,11 +31,9 @@ write_drop_table-requires c =
 
 pub counts_after-after-requires : goal.counts_after-after-requires
 counts_after-after-requires c =
-    let passed : tie.Else1 = c in
-    few_after _ _ 0 _ _ (drop_table_adds _ _ _) (accepted_call _ _ 0 _ (drop_table_judged c.requires _ c.refuse_drop_table-number.ensures 0) passed.if1.left)
+    few_after _ _ 0 _ _ (drop_table_adds _ _ _) (accepted_call _ _ 0 _ (drop_table_judged c.requires _ c.refuse_drop_table-number.ensures 0) c.if-number-ne-ACCEPTED.false)
 
 pub returns : goal.returns
 returns c l area =
-    let passed : tie.Else1 = c in
-    commit_accepted _ _ _ _ _ (drop_table_judged l _ c.refuse_drop_table-number.ensures) passed.if1.left (drop_table_adds _ _ _) c.counts_after-after.ensures
+    commit_accepted _ _ _ _ _ (drop_table_judged l _ c.refuse_drop_table-number.ensures) c.if-number-ne-ACCEPTED.false (drop_table_adds _ _ _) c.counts_after-after.ensures
     (λ f. c.write_drop_table.ensures _ f l.snapshots l.tables l.columns l.data_files l.delete_files)

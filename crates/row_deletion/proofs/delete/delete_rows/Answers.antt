@@ -37,14 +37,12 @@ write_delete-count-requires c =
 
 pub counts_after-after-requires : goal.counts_after-after-requires
 counts_after-after-requires c =
-    let passed : tie.Else1 = c in
     let l = c.requires in
     few_as _ (adds_as l.words _ _ c.args.new_positions.now (lent_deleted l _ refl refl) c.delete_adds-added.ensures c.write_delete-count.ensures.0)
-    (few_after _ _ 0 _ _ (delete_adds_lem _ _ _ _ _) (accepted_call _ _ 0 _ (c.refuse_delete-number.ensures l 0) passed.if1.left))
+    (few_after _ _ 0 _ _ (delete_adds_lem _ _ _ _ _) (accepted_call _ _ 0 _ (c.refuse_delete-number.ensures l 0) c.if-number-ne-ACCEPTED.false))
 
 pub returns : goal.returns
 returns c l area =
-    let passed : tie.Else1 = c in
-    commit_accepted _ _ _ _ _ (c.refuse_delete-number.ensures l) passed.if1.left (delete_adds_lem _ _ _ _ _)
+    commit_accepted _ _ _ _ _ (c.refuse_delete-number.ensures l) c.if-number-ne-ACCEPTED.false (delete_adds_lem _ _ _ _ _)
     (c.counts_after-after.ensures ∙ ap (add_counts _) (adds_as l.words _ _ c.args.new_positions.now (lent_deleted l _ refl refl) c.delete_adds-added.ensures c.write_delete-count.ensures.0))
     (λ f. c.write_delete-count.ensures.1 _ f l.snapshots l.data_files l.delete_files l.positions)

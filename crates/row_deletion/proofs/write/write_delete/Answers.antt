@@ -7,7 +7,7 @@ use Rattle.row_deletion.proofs.write.write_delete.Goals as goal
 
 pub overflow_add-count : goal.overflow_add-count
 overflow_add-count c =
-    omega (arith, c.good.1.1.1.0, positions_room c.requires c.latest_snapshot-latest.ensures c.deleted_part-old.ensures)
+    omega (arith, positions_room c.requires c.latest_snapshot-latest.ensures c.deleted_part-old.ensures)
 
 pub append_snapshot-begin-requires : goal.append_snapshot-begin-requires
 append_snapshot-begin-requires c =
@@ -19,7 +19,7 @@ end_delete_file-requires c =
 
 pub append_delete_file-requires : goal.append_delete_file-requires
 append_delete_file-requires c =
-    omega (arith, c.end_delete_file.kept.0, c.requires.delete_files)
+    omega (arith, c.end_delete_file.auto.delete_files, c.requires.delete_files)
 
 pub merge_positions-requires : goal.merge_positions-requires
 merge_positions-requires c =

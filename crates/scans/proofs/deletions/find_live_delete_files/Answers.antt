@@ -21,7 +21,7 @@ pub loop-j-preserved-then-live : goal.loop-j-preserved-then-live
 loop-j-preserved-then-live c =
     let h = c.loop-j in (
       omega arith,
-      c.set_at_data_file.kept.1.1.1.1.0 ∙ h.invariant.1,
+      c.set_at_data_file.auto.numbers ∙ h.invariant.1,
       found_live _ _ _ _ _ _ h.j (h.j - 1) (omega arith) (omega arith) c.life_at-l.ensures c.is_live-live.ensures h.invariant.2 c.requires.by_id.ascending
           (omega (arith, h.invariant.1, c.requires.room)) c.if-live.true (ap (λ f. f.0) c.delete_file_data_file-file.ensures) c.set_at_data_file.ensures,
     )

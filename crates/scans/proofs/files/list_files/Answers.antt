@@ -36,7 +36,7 @@ loop-i-preserved-then-read c =
     let w = c.write_listed in
     let g = c.loop-i-test.true in (
       omega arith,
-      listing_pass _ _ _ _ _ _ _ _ _ c.loop-i.invariant.1 g c.is_read-read.ensures _ c.if-read.true w.kept.1.1.1.1.0 w.ensures
+      listing_pass _ _ _ _ _ _ _ _ _ c.loop-i.invariant.1 g c.is_read-read.ensures _ c.if-read.true w.auto.area w.ensures
           (λ positions. listed_is _ _ _ _ _ _ c.requires.0.1 positions _ g),
     )
 

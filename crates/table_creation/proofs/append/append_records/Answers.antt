@@ -25,7 +25,7 @@ pub loop-i-preserved : goal.loop-i-preserved
 loop-i-preserved c =
     let l = c.loop-i in (
       omega arith,
-      c.append_column.auto.0 ∙ l.invariant.1,
+      c.append_column.auto.columns ∙ l.invariant.1,
       l.invariant.2 ∙ laying_next column_words column_size _ _ _ l.columns _ l.i c.loop-i-test.true (column_lawful.words_length _) (omega arith) c.append_column.ensures,
     )
 

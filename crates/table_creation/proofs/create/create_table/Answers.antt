@@ -35,13 +35,11 @@ write_create_table-requires c =
 
 pub counts_after-after-requires : goal.counts_after-after-requires
 counts_after-after-requires c =
-    let start : tie.Start = c in
     few_as _ c.table_added-added.ensures
-    (few_after _ _ 0 _ _ (create_table_adds _ _ _ _ _ _) (accepted_call _ _ 0 _ (lent_judged start.requires _ c.refuse_create_table-number.ensures 0) c.if-number-ne-ACCEPTED.false))
+    (few_after _ _ 0 _ _ (create_table_adds _ _ _ _ _ _) (accepted_call _ _ 0 _ (lent_judged c.requires _ c.refuse_create_table-number.ensures 0) c.if-number-ne-ACCEPTED.false))
 
 pub returns : goal.returns
 returns c l area =
-    let passed : tie.Else1 = c in
-    commit_accepted _ _ _ _ _ (lent_judged l _ c.refuse_create_table-number.ensures) passed.if1.left (create_table_adds _ _ _ _ _ _)
+    commit_accepted _ _ _ _ _ (lent_judged l _ c.refuse_create_table-number.ensures) c.if-number-ne-ACCEPTED.false (create_table_adds _ _ _ _ _ _)
     (c.counts_after-after.ensures ∙ ap (add_counts _) c.table_added-added.ensures)
     (λ f. c.write_create_table.ensures _ f l.snapshots l.tables l.table_names l.columns l.column_names)
