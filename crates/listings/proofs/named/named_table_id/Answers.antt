@@ -12,7 +12,7 @@ use Rattle.listings.proofs.named.named_table_id.Goals as goal
 pub table_id-requires : goal.table_id-requires
 table_id-requires c =
     let a = c.args in
-    record_fits table_size (named_inside a.tables.now a.names.now a.n a.s.0 a.schema.0 a.name.now c.find_named_table-found.ensures c.in-At.is) c.requires.0.tables
+    record_fits table_size (named_inside a.tables.now a.names.now a.n a.s.0 a.schema.0 a.name.now c.find_named_table-found.ensures c.in-At.is) c.requires.tables_with_names.tables
 
 pub returns-in-At : goal.returns-in-At
 returns-in-At c =
@@ -21,4 +21,4 @@ returns-in-At c =
 
 pub returns : goal.returns
 returns c =
-    clash c.requires.1 (sym (ap is_at (sym c.in_default.is) ∙ named_found _ _ _ _ c.find_named_table-found.ensures))
+    clash c.requires.name_value (sym (ap is_at (sym c.in_default.is) ∙ named_found _ _ _ _ c.find_named_table-found.ensures))

@@ -8,7 +8,7 @@ use Rattle.listings.proofs.time.latest_id_by.Goals as goal
 
 pub snapshot_id-requires : goal.snapshot_id-requires
 snapshot_id-requires c =
-    record_fits snapshot_size (rw c.in-At.is at c.latest_by-found.ensures).0 c.requires.0.0.lent
+    record_fits snapshot_size (rw c.in-At.is at c.latest_by-found.ensures).0 c.requires.snapshots_by_id.0.lent
 
 pub returns-in-At : goal.returns-in-At
 returns-in-At c =
@@ -16,4 +16,4 @@ returns-in-At c =
 
 pub returns : goal.returns
 returns c =
-    clash c.requires.1 (rw c.in_default.is at c.latest_by-found.ensures)
+    clash c.requires.t_value (rw c.in_default.is at c.latest_by-found.ensures)

@@ -16,15 +16,15 @@ has_room c =
 
 pub loop-i-init : goal.loop-i-init
 loop-i-init c =
-    (omega arith, record { long = refl; room = c.requires.1; same = λ positions. refl })
+    (omega arith, record { long = refl; room = c.requires.table_in_bounds; same = λ positions. refl })
 
 pub bounds-places-at : goal.bounds-places-at
 bounds-places-at c =
-    omega (arith, c.requires.0.1.room)
+    omega (arith, c.requires.files_selectable.1.room)
 
 pub write_listed-requires : goal.write_listed-requires
 write_listed-requires c =
-    let p = c.requires.0 in
+    let p = c.requires.files_selectable in
     (omega (arith, p.0.lent), omega (arith, p.2, place-within _ _ _ _ _ _ p.1 _ c.loop-i-test.true), has_room c)
 
 pub overflow_add-k : goal.overflow_add-k
@@ -37,7 +37,7 @@ loop-i-preserved-then-read c =
     let g = c.loop-i-test.true in (
       omega arith,
       listing_pass _ _ _ _ _ _ _ _ _ c.loop-i.invariant.1 g c.is_read-read.ensures _ c.if-read.true w.auto.area w.ensures
-          (λ positions. listed_is _ _ _ _ _ _ c.requires.0.1 positions _ g),
+          (λ positions. listed_is _ _ _ _ _ _ c.requires.files_selectable.1 positions _ g),
     )
 
 pub loop-i-preserved : goal.loop-i-preserved

@@ -35,22 +35,22 @@ returns-then-number-ne-ACCEPTED c area =
 
 pub remaining_ids-m-requires : goal.remaining_ids-m-requires
 remaining_ids-m-requires c =
-    let passed : (let start = begun c in NotRefused (tables _ _ start.requires) start.args.counts start.args.ids.now start.args.time) = not_refused _ _ _ _ c.requires c.refuse_expiry-number.ensures c.if-number-ne-ACCEPTED.false in
+    let passed : NotRefused (tables _ _ c.requires) c.args.counts c.args.ids.now c.args.time = not_refused _ _ _ _ c.requires c.refuse_expiry-number.ensures c.if-number-ne-ACCEPTED.false in
     (list_expirable _ _ _ _ passed, search rules)
 
 pub expire_listed-n-requires : goal.expire_listed-n-requires
 expire_listed-n-requires c =
-    let passed : (let start = begun c in NotRefused (tables _ _ start.requires) start.args.counts start.args.ids.now start.args.time) = not_refused _ _ _ _ c.requires c.refuse_expiry-number.ensures c.if-number-ne-ACCEPTED.false in
+    let passed : NotRefused (tables _ _ c.requires) c.args.counts c.args.ids.now c.args.time = not_refused _ _ _ _ c.requires c.refuse_expiry-number.ensures c.if-number-ne-ACCEPTED.false in
     list_expirable _ _ _ _ passed
 
 pub expire_definitions-d-requires : goal.expire_definitions-d-requires
 expire_definitions-d-requires c =
-    let passed : (let start = begun c in NotRefused (tables _ _ start.requires) start.args.counts start.args.ids.now start.args.time) = not_refused _ _ _ _ c.requires c.refuse_expiry-number.ensures c.if-number-ne-ACCEPTED.false in
+    let passed : NotRefused (tables _ _ c.requires) c.args.counts c.args.ids.now c.args.time = not_refused _ _ _ _ c.requires c.refuse_expiry-number.ensures c.if-number-ne-ACCEPTED.false in
     definitions_lent _ _ _ _ passed c.remaining_ids-m.ensures
 
 pub expire_files-f-requires : goal.expire_files-f-requires
 expire_files-f-requires c =
-    let passed : (let start = begun c in NotRefused (tables _ _ start.requires) start.args.counts start.args.ids.now start.args.time) = not_refused _ _ _ _ c.requires c.refuse_expiry-number.ensures c.if-number-ne-ACCEPTED.false in
+    let passed : NotRefused (tables _ _ c.requires) c.args.counts c.args.ids.now c.args.time = not_refused _ _ _ _ c.requires c.refuse_expiry-number.ensures c.if-number-ne-ACCEPTED.false in
     files_lent _ _ _ _ passed c.remaining_ids-m.ensures
 
 pub shape_of-snapshots : goal.shape_of-snapshots
@@ -91,6 +91,6 @@ shape_of-scheduled c = c.expire_files-f.auto.scheduled
 
 pub returns : goal.returns
 returns c area =
-    let passed : (let start = begun c in NotRefused (tables _ _ start.requires) start.args.counts start.args.ids.now start.args.time) = not_refused _ _ _ _ c.requires c.refuse_expiry-number.ensures c.if-number-ne-ACCEPTED.false in
+    let passed : NotRefused (tables _ _ c.requires) c.args.counts c.args.ids.now c.args.time = not_refused _ _ _ _ c.requires c.refuse_expiry-number.ensures c.if-number-ne-ACCEPTED.false in
     expiry_accepted _ _ _ _ c.requires c.refuse_expiry-number.ensures area c.if-number-ne-ACCEPTED.false
     (expiry_written _ _ _ _ passed c.remaining_ids-m.ensures _ c.expire_listed-n.ensures c.expire_definitions-d.ensures c.expire_files-f.ensures)
