@@ -17,7 +17,10 @@ named_table_id-id-requires c =
     let l = c.requires in
     let e = c.refuse_named_table-number.ensures l in
     let h = reading_sound _ _ _ e c.if-number-ne-ACCEPTED.false in
-    (record { tables = (tables_by_id_lem _ _ h l.tables).lent; places = table_names_lent_lem _ _ h l.table_names }, named_some _ _ _ _ _ l.tables l.table_names e c.if-number-ne-ACCEPTED.false)
+    record {
+      tables_with_names = record { tables = (tables_by_id_lem _ _ h l.tables).lent; places = table_names_lent_lem _ _ h l.table_names };
+      name_value = named_some _ _ _ _ _ l.tables l.table_names e c.if-number-ne-ACCEPTED.false;
+    }
 
 pub returns : goal.returns
 returns c l =

@@ -28,12 +28,26 @@ bounds-area-k c =
 pub loop-i-preserved-then-live : goal.loop-i-preserved-then-live
 loop-i-preserved-then-live c =
     let h = c.loop-i in
+    let a = c.args in
+    let room : h.k < length h.area =
+    omega (arith, c.count_live-length.ensures, schemas_counted a.schemas.now [] a.n a.s.0, c.if-area-length.false, counted_room _ _ _ _ _ _ (h.invariant.3 []) c.loop-i-test.true (schema_live _ [] _ _ c.is_live_at-live.ensures ∙ c.if-live.true)) in
     let t = c.loop-i-test.true in (
       omega arith,
       omega arith,
       simp length-set h.invariant.2,
       (λ names. h.invariant.3 names ∙ counted_pass _ _ _ _ _ t (schema_live _ names _ _ c.is_live_at-live.ensures ∙ c.if-live.true)),
-      λ names. h.invariant.4 names ∙ sent_pass _ _ _ _ _ _ _ _ (slice_write_area c) t (schema_live _ names _ _ c.is_live_at-live.ensures ∙ c.if-live.true) (ap (λ k. k.0) c.schema_id-id.ensures),
+      λ names. h.invariant.4 names ∙ sent_pass _ _ _ _ _ _ _ _ room t (schema_live _ names _ _ c.is_live_at-live.ensures ∙ c.if-live.true) (ap (λ k. k.0) c.schema_id-id.ensures),
+    )
+
+pub loop-i-preserved : goal.loop-i-preserved
+loop-i-preserved c =
+    let h = c.loop-i in
+    let t = c.loop-i-test.true in (
+      omega arith,
+      omega arith,
+      h.invariant.2,
+      (λ names. h.invariant.3 names ∙ counted_fail _ _ _ _ _ t (schema_live _ names _ _ c.is_live_at-live.ensures ∙ c.if-live.false)),
+      λ names. h.invariant.4 names ∙ sent_fail _ _ _ _ _ _ _ t (schema_live _ names _ _ c.is_live_at-live.ensures ∙ c.if-live.false),
     )
 
 pub loop-i-preserved : goal.loop-i-preserved

@@ -27,12 +27,25 @@ bounds-area-k c =
 pub loop-i-preserved-then-there : goal.loop-i-preserved-then-there
 loop-i-preserved-then-there c =
     let h = c.loop-i in
+    let room : h.k < length h.area =
+    omega (arith, c.count_tables-length.ensures [], c.if-area-length.false, counted_room _ _ _ _ _ _ (h.invariant.3 []) c.loop-i-test.true (sym (c.is_in_schema-there.ensures []) ∙ c.if-there.true)) in
     let t = c.loop-i-test.true in (
       omega arith,
       omega arith,
       simp length-set h.invariant.2,
       (λ names. h.invariant.3 names ∙ counted_pass _ _ _ _ _ t (sym (c.is_in_schema-there.ensures names) ∙ c.if-there.true)),
-      λ names. h.invariant.4 names ∙ sent_pass _ _ _ _ _ _ _ _ (slice_write_area c) t (sym (c.is_in_schema-there.ensures names) ∙ c.if-there.true) (ap (λ k. k.0) c.table_id-id.ensures),
+      λ names. h.invariant.4 names ∙ sent_pass _ _ _ _ _ _ _ _ room t (sym (c.is_in_schema-there.ensures names) ∙ c.if-there.true) (ap (λ k. k.0) c.table_id-id.ensures),
+    )
+
+pub loop-i-preserved : goal.loop-i-preserved
+loop-i-preserved c =
+    let h = c.loop-i in
+    let t = c.loop-i-test.true in (
+      omega arith,
+      omega arith,
+      h.invariant.2,
+      (λ names. h.invariant.3 names ∙ counted_fail _ _ _ _ _ t (sym (c.is_in_schema-there.ensures names) ∙ c.if-there.false)),
+      λ names. h.invariant.4 names ∙ sent_fail _ _ _ _ _ _ _ t (sym (c.is_in_schema-there.ensures names) ∙ c.if-there.false),
     )
 
 pub loop-i-preserved : goal.loop-i-preserved

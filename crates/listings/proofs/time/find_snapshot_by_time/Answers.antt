@@ -17,7 +17,10 @@ latest_id_by-id-requires c =
     let l = c.requires in
     let e = c.refuse_by_time-number.ensures l in
     let h = reading_sound _ _ _ e c.if-number-ne-ACCEPTED.false in
-    ((snapshots_by_id _ _ h l.snapshots, snapshots_by_time_lem _ _ h l.snapshots), by_time_some _ _ _ l.snapshots e c.if-number-ne-ACCEPTED.false)
+    record {
+      snapshots_by_id = (snapshots_by_id _ _ h l.snapshots, snapshots_by_time_lem _ _ h l.snapshots);
+      t_value = by_time_some _ _ _ l.snapshots e c.if-number-ne-ACCEPTED.false;
+    }
 
 pub returns : goal.returns
 returns c l =

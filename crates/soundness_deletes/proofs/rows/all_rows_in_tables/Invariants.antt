@@ -1,0 +1,23 @@
+-- `all_rows_in_tables` meets its contract: the loop reads and judges one data file after the other.
+use borrow.Author.Rules.{rules}
+use Prim.Native.Nat.{ℕ, ◌-◌, ◌≤◌}
+use mathlib.Core.Path.{◌≡◌, sym, ◌∙◌}
+use mathlib.Core.List.{List}
+use native.Mathlib.Omega.{arith}
+use Rattle.lists.specs.Lists.{all}
+use Rattle.lists.specs.Runs.{from}
+use Rattle.lists.proofs.Loops.{all_start, all_passed, all_failed, all_end}
+use Rattle.lists.proofs.Runs.{record_fits}
+use Rattle.layout.specs.Fields.{data_file_size}
+use Rattle.layout.specs.Words.{tables_in, data_file_at, data_files_in}
+use Rattle.ducklake.specs.Soundness.{rows_in_table}
+use Rattle.soundness_deletes.proofs.RowRanges.{rows_read, in_range_at}
+use Rattle.soundness_deletes.proofs.rows.all_rows_in_tables.Given as goal
+
+abbrev pub invariant-loop-i : goal.invariant-loop-i
+invariant-loop-i l =
+    (l.i ≤ l.counts.data_files) × ((names : List ℕ) → all (rows_in_table (tables_in l.tables names l.counts.tables)) (data_files_in l.data_files l.counts.data_files)
+    ≡ all (rows_in_table (tables_in l.tables names l.counts.tables)) (from (data_file_at l.data_files) l.i l.counts.data_files))
+
+abbrev pub decreases-loop-i : goal.decreases-loop-i
+decreases-loop-i l = l.counts.data_files - l.i

@@ -1,0 +1,19 @@
+-- `hash_names` meets its contract: each hash is written in its turn.
+use borrow.Author.Rules.{rules}
+use Prim.Native.Nat.{◌-◌, ◌≤◌}
+use mathlib.Core.Path.{◌≡◌, refl, sym, ◌∙◌}
+use native.Mathlib.Omega.{arith}
+use lib.ListN.{length, length-set}
+use Rattle.lists.proofs.Loops.{filled, filled_start, filled_next, filled_end, filled_whole}
+use Rattle.lists.proofs.Runs.{record_fits}
+use Rattle.layout.specs.Names.{name_size}
+use Rattle.soundness_unique.specs.Naming.{name_hash}
+use Rattle.soundness_unique.proofs.naming.hash_names.Given as goal
+
+abbrev pub invariant-loop-p : goal.invariant-loop-p
+invariant-loop-p l =
+    (l.p ≤ length l.initial.hashes) × (length l.hashes ≡ length l.initial.hashes)
+    × (filled (name_hash l.size l.group l.table l.names) (length l.initial.hashes) l.initial.hashes 0 ≡ filled (name_hash l.size l.group l.table l.names) (length l.initial.hashes) l.hashes l.p)
+
+abbrev pub decreases-loop-p : goal.decreases-loop-p
+decreases-loop-p l = length l.initial.hashes - l.p

@@ -1,0 +1,32 @@
+-- `neighbours_apart` meets its contract: the loop compares each two that follow each other.
+use borrow.Author.Rules.{rules}
+use Prim.Native.Nat.{◌-◌, ◌≤◌}
+use mathlib.Core.Path.{◌≡◌, refl, sym, ◌∙◌}
+use native.Mathlib.Omega.{arith}
+use lib.ListN.{length, drop}
+use Rattle.lists.specs.Lists.{chained}
+use Rattle.lists.proofs.Tests.{passed, failed}
+use Rattle.sorting.proofs.KeyOrder.{keyed_at_lem}
+use Rattle.sorting.proofs.Passes.{chain_on, chain_stop, chain_end}
+use Rattle.soundness_unique.specs.Naming.{keys_apart}
+use Rattle.soundness_unique.proofs.naming.neighbours_apart.Goals as goal
+
+pub loop-i-init : goal.loop-i-init
+loop-i-init c = (omega arith, refl)
+
+pub keys_apart-ok-requires : goal.keys_apart-ok-requires
+keys_apart-ok-requires c =
+    let p = c.requires in
+    let t = c.loop-i-test.true in
+    (keyed_at_lem _ _ _ _ p.0 (omega (arith, t)), keyed_at_lem _ _ _ _ p.0 t, keyed_at_lem _ _ _ _ p.1 (omega (arith, t)), keyed_at_lem _ _ _ _ p.1 t, p.2)
+
+pub returns-then-not-ok : goal.returns-then-not-ok
+returns-then-not-ok c =
+    sym (c.loop-i.invariant.1 ∙ chain_stop _ _ _ c.loop-i-test.true (failed c.keys_apart-ok.ensures c.if-not-ok.true-raw))
+
+pub loop-i-preserved : goal.loop-i-preserved
+loop-i-preserved c =
+    (omega (arith, c.loop-i-test.true), c.loop-i.invariant.1 ∙ chain_on _ _ _ c.loop-i-test.true (passed c.keys_apart-ok.ensures c.if-not-ok.false-raw))
+
+pub returns : goal.returns
+returns c = sym (c.loop-i.invariant.1 ∙ chain_end _ _ _ c.loop-i-test.false)
