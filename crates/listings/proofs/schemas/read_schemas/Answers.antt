@@ -1,6 +1,6 @@
 -- `read_schemas` meets its contract: the loop tests each schema as the definition does, and writes the ids of those that pass one behind the other: there is room for all of them.
 use borrow.Author.Rules.{rules}
-use Prim.Native.Nat.{ℕ, ◌≤◌, ◌-◌}
+use Prim.Native.Nat.{ℕ, ◌≤◌, ◌-◌, ◌<◌}
 use mathlib.Core.Path.{◌≡◌, refl, sym, ap, ◌∙◌}
 use mathlib.Core.List.{List, []}
 use native.Mathlib.Omega.{arith}
@@ -37,17 +37,6 @@ loop-i-preserved-then-live c =
       simp length-set h.invariant.2,
       (λ names. h.invariant.3 names ∙ counted_pass _ _ _ _ _ t (schema_live _ names _ _ c.is_live_at-live.ensures ∙ c.if-live.true)),
       λ names. h.invariant.4 names ∙ sent_pass _ _ _ _ _ _ _ _ room t (schema_live _ names _ _ c.is_live_at-live.ensures ∙ c.if-live.true) (ap (λ k. k.0) c.schema_id-id.ensures),
-    )
-
-pub loop-i-preserved : goal.loop-i-preserved
-loop-i-preserved c =
-    let h = c.loop-i in
-    let t = c.loop-i-test.true in (
-      omega arith,
-      omega arith,
-      h.invariant.2,
-      (λ names. h.invariant.3 names ∙ counted_fail _ _ _ _ _ t (schema_live _ names _ _ c.is_live_at-live.ensures ∙ c.if-live.false)),
-      λ names. h.invariant.4 names ∙ sent_fail _ _ _ _ _ _ _ t (schema_live _ names _ _ c.is_live_at-live.ensures ∙ c.if-live.false),
     )
 
 pub loop-i-preserved : goal.loop-i-preserved

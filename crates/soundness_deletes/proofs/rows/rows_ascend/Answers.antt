@@ -14,21 +14,6 @@ use Rattle.ducklake.specs.Soundness.{rows_before}
 use Rattle.soundness_deletes.proofs.RowRanges.{in_range_at, slot, ascend, ascend_start, ascend_found, ascend_pass, ascend_fail, ascend_end}
 use Rattle.soundness_deletes.proofs.rows.rows_ascend.Goals as goal
 
--- the place found lies among the notes, of which there are as many as tables
-in_table : (c : tie.After-known-told invariant-loop decreases-loop) → let turn : tie.Then1 invariant-loop decreases-loop = search in c.before.found.given.0.0 < length turn.before.before.loop.ends
-in_table c =
-    let sought : tie.After-find-table-near invariant-loop decreases-loop = search in
-    let turn : tie.Then1 invariant-loop decreases-loop = search in
-    let start = turn in
-    let p = start.pre in
-    omega (
-      arith,
-      turn.before.before.loop.inv.1,
-      ap length p.2,
-      length-replicate {A = ℕ} start.args.counts.tables 0,
-      slot p.0 p.1 turn.if1.taken sought.before.before.data-file-at.ensures sought.find-table-near.ensures c.before.found.given.1,
-    )
-
 pub loop-i-init : goal.loop-i-init
 loop-i-init c = (omega arith, refl, ascend_start c.requires.0 c.requires.1 c.requires.2)
 
@@ -40,10 +25,28 @@ returns-in_default c =
     absurd (ascend_found c.requires.0 c.requires.1 c.loop-i-test.true c.data_file_at-file.ensures c.find_table_near-found.ensures c.in_default.is)
 
 pub offset_bounds-ends-k : goal.offset_bounds-ends-k
-offset_bounds-ends-k c = in_word search
+offset_bounds-ends-k c =
+    let in_table : c.in-At.k < length c.loop-i.ends =
+        omega (
+          arith,
+          c.loop-i.invariant.1,
+          ap length c.requires.2,
+          length-replicate {A = ℕ} c.args.counts.tables 0,
+          slot c.requires.0 c.requires.1 c.loop-i-test.true c.data_file_at-file.ensures c.find_table_near-found.ensures c.in-At.is,
+        ) in
+    omega (arith, in_table)
 
 pub bounds-ends-k : goal.bounds-ends-k
-bounds-ends-k c = in_table search
+bounds-ends-k c =
+    let in_table : c.in-At.k < length c.loop-i.ends =
+        omega (
+          arith,
+          c.loop-i.invariant.1,
+          ap length c.requires.2,
+          length-replicate {A = ℕ} c.args.counts.tables 0,
+          slot c.requires.0 c.requires.1 c.loop-i-test.true c.data_file_at-file.ensures c.find_table_near-found.ensures c.in-At.is,
+        ) in
+    in_table
 
 pub returns-then-file-ends : goal.returns-then-file-ends
 returns-then-file-ends c =
@@ -52,24 +55,50 @@ returns-then-file-ends c =
 
 pub row_id_end-end-requires : goal.row_id_end-end-requires
 row_id_end-end-requires c =
-    in_range_at search.requires.0 c.loop-i-test.true c.data_file_at-file.ensures
+    in_range_at c.requires.0 c.loop-i-test.true c.data_file_at-file.ensures
 
 pub offset_bounds-ends-k-in-loop-i : goal.offset_bounds-ends-k-in-loop-i
-offset_bounds-ends-k-in-loop-i c = in_word search
+offset_bounds-ends-k-in-loop-i c =
+    let in_table : c.in-At.k < length c.loop-i.ends =
+        omega (
+          arith,
+          c.loop-i.invariant.1,
+          ap length c.requires.2,
+          length-replicate {A = ℕ} c.args.counts.tables 0,
+          slot c.requires.0 c.requires.1 c.loop-i-test.true c.data_file_at-file.ensures c.find_table_near-found.ensures c.in-At.is,
+        ) in
+    omega (arith, in_table)
 
 pub bounds-ends-k-in-loop-i : goal.bounds-ends-k-in-loop-i
-bounds-ends-k-in-loop-i c = in_table search
+bounds-ends-k-in-loop-i c =
+    let in_table : c.in-At.k < length c.loop-i.ends =
+        omega (
+          arith,
+          c.loop-i.invariant.1,
+          ap length c.requires.2,
+          length-replicate {A = ℕ} c.args.counts.tables 0,
+          slot c.requires.0 c.requires.1 c.loop-i-test.true c.data_file_at-file.ensures c.find_table_near-found.ensures c.in-At.is,
+        ) in
+    in_table
 
 pub overflow_add-i : goal.overflow_add-i
 overflow_add-i c = omega (arith, c.loop-i-test.true, c.struct_known-1.given)
 
 pub loop-i-preserved : goal.loop-i-preserved
 loop-i-preserved c =
+    let in_table : c.in-At.k < length c.loop-i.ends =
+        omega (
+          arith,
+          c.loop-i.invariant.1,
+          ap length c.requires.2,
+          length-replicate {A = ℕ} c.args.counts.tables 0,
+          slot c.requires.0 c.requires.1 c.loop-i-test.true c.data_file_at-file.ensures c.find_table_near-found.ensures c.in-At.is,
+        ) in
     let v = c.loop-i.invariant in (
       omega (arith, c.loop-i-test.true),
       simp length-set v.1,
       v.2 ∙ ascend_pass c.requires.0 c.requires.1 c.loop-i-test.true c.data_file_at-file.ensures c.find_table_near-found.ensures c.in-At.is _
-          (in_table c) c.row_id_end-end.ensures c.if-file-ends.false,
+          in_table c.row_id_end-end.ensures c.if-file-ends.false,
     )
 
 pub returns : goal.returns
