@@ -8,12 +8,6 @@ use Rattle.scans.specs.Filters.{listed_size}
 use Rattle.scans.proofs.FileLists.{Listing, place-within, listed_is, listing_room, listing_pass, listing_fail, listing_end}
 use Rattle.scans.proofs.files.list_files.Goals as goal
 
--- the next file that is read has room behind those laid
-has_room : (c : tie.Then1 invariant-loop decreases-loop) → let head : tie.At-loop invariant-loop decreases-loop = search in head.loop.k + listed_size ≤ length head.loop.area
-has_room c =
-    let turn : tie.In-loop invariant-loop decreases-loop = search in
-    listing_room _ _ _ _ _ _ _ _ _ turn.before.loop.inv.1 turn.loop-test.taken c.before.is_read_lem.ensures c.if1.true
-
 pub loop-i-init : goal.loop-i-init
 loop-i-init c =
     (omega arith, record { long = refl; room = c.requires.table_in_bounds; same = λ positions. refl })
@@ -23,13 +17,18 @@ bounds-places-at c =
     omega (arith, c.requires.files_selectable.1.room)
 
 pub write_listed-requires : goal.write_listed-requires
+-- the next file that is read has room behind those laid
 write_listed-requires c =
+    let room : c.loop-i.k + listed_size ≤ length c.loop-i.area =
+        listing_room _ _ _ _ _ _ _ _ _ c.loop-i.invariant.1 c.loop-i-test.true c.is_read-read.ensures c.if-read.true in
     let p = c.requires.files_selectable in
-    (omega (arith, p.0.lent), omega (arith, p.2, place-within _ _ _ _ _ _ p.1 _ c.loop-i-test.true), has_room c)
+    (omega (arith, p.0.lent), omega (arith, p.2, place-within _ _ _ _ _ _ p.1 _ c.loop-i-test.true), room)
 
 pub overflow_add-k : goal.overflow_add-k
 overflow_add-k c =
-    omega (arith, has_room c, c.loop-i.invariant.1.long, c.good.1.1.1.1.1.1.1.1.1.1.1.1.0.0)
+    let room : c.loop-i.k + listed_size ≤ length c.loop-i.area =
+        listing_room _ _ _ _ _ _ _ _ _ c.loop-i.invariant.1 c.loop-i-test.true c.is_read-read.ensures c.if-read.true in
+    omega (arith, room, c.loop-i.invariant.1.long)
 
 pub loop-i-preserved-then-read : goal.loop-i-preserved-then-read
 loop-i-preserved-then-read c =

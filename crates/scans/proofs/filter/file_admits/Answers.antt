@@ -20,7 +20,7 @@ statistics_at-x-requires c = omega (arith, c.statistics_near-block.ensures.most,
 pub returns-then-x-column : goal.returns-then-x-column
 returns-then-x-column c f e =
     let h = c.loop-i in
-    sym (kept_block _ _ _ (to_z-of_z c.fits.scalar) f e c.statistics_near-block.ensures
+    sym (kept_block _ _ _ (to_z-of_z c.ranges.scalar) f e c.statistics_near-block.ensures
     ∙ (h.invariant.1 ∙ any_here _ _ _ _ c.loop-i-test.true (admitted_is c.args.statistics.now h.i _ _ c.statistics_at-x.ensures c.record_admits-admitted.ensures ∙ c.if-x-column.true)))
 
 pub loop-i-preserved : goal.loop-i-preserved
@@ -30,4 +30,4 @@ loop-i-preserved c =
 
 pub returns : goal.returns
 returns c f e =
-    sym (kept_block _ _ _ (to_z-of_z c.fits.scalar) f e c.statistics_near-block.ensures ∙ (c.loop-i.invariant.1 ∙ any_over _ _ _ _ c.loop-i-test.false))
+    sym (kept_block _ _ _ (to_z-of_z c.ranges.scalar) f e c.statistics_near-block.ensures ∙ (c.loop-i.invariant.1 ∙ any_over _ _ _ _ c.loop-i-test.false))

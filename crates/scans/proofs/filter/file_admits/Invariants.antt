@@ -13,7 +13,7 @@ use Rattle.scans.proofs.filter.file_admits.Given as goal
 
 abbrev pub invariant-loop-i : goal.invariant-loop-i
 invariant-loop-i l =
-    (l.i ≤ l.end) × (any (admitted l.column (signed l.scalar)) (from (statistics_at l.statistics) l.initial.i l.end) ≡ any (admitted l.column (signed l.scalar)) (from (statistics_at l.statistics) l.i l.end))
+    (l.i ≤ l.end) × (any (admitted l.column l.scalar) (from (statistics_at l.statistics) l.initial.i l.end) ≡ any (admitted l.column l.scalar) (from (statistics_at l.statistics) l.i l.end))
 
 abbrev pub decreases-loop-i : goal.decreases-loop-i
 decreases-loop-i l = l.end - l.i

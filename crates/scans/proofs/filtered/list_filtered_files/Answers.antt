@@ -21,4 +21,4 @@ read_files-answer-requires c =
 
 pub returns : goal.returns
 returns c l =
-    reading_answered _ _ _ (c.refuse_column-number.ensures (only_columns l) _) _ c.if-number-ne-ACCEPTED.false (filtered_answer _ _ _ _ l.data_files l.delete_files l.statistics _ (to_z-of_z c.fits.scalar)) (c.read_files-answer.ensures _)
+    reading_answered _ _ _ (c.refuse_column-number.ensures (only_columns l) _) _ c.if-number-ne-ACCEPTED.false (filtered_answer _ _ _ _ l.data_files l.delete_files l.statistics _ (to_z-of_z c.ranges.scalar)) (c.read_files-answer.ensures _)

@@ -1,0 +1,11 @@
+-- `all_unsound` meets its contract: its scratch is long enough for so many records.
+use borrow.Author.Rules.{rules}
+use native.Mathlib.Omega.{arith}
+use lib.ListN.{length-replicate}
+use Rattle.layout.specs.Words.{table_limit}
+use Rattle.soundness.proofs.check.all_unsound.Goals as goal
+
+pub unsound_by-requires : goal.unsound_by-requires
+unsound_by-requires c =
+    let p = search.requires in
+    (p.0, record { most = table_limit; few = p.1; room = simp length-replicate (omega arith); places = simp length-replicate (omega arith); spare = simp length-replicate (omega arith); starts = simp length-replicate (omega arith) })
