@@ -7,5 +7,5 @@ use Rattle.soundness.proofs.check.all_unsound.Goals as goal
 
 pub unsound_by-requires : goal.unsound_by-requires
 unsound_by-requires c =
-    let p = search.requires in
+    let p = c.requires in
     (p.0, record { most = table_limit; few = p.1; room = simp length-replicate (omega arith); places = simp length-replicate (omega arith); spare = simp length-replicate (omega arith); starts = simp length-replicate (omega arith) })

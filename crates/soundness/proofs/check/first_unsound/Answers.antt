@@ -13,24 +13,27 @@ use Rattle.soundness.proofs.check.first_unsound.Goals as goal
 abbrev words_of : {r : Counts} (w : Words) → r ≡ capacity w → Words
 words_of w e = w
 
-abbrev lent : tie.After-capacity → Words
-lent c = words_of _ c.capacity.ensures
-
-abbrev counts : tie.After-capacity → Counts
-counts c =
-    let start : tie.Start = search in
-    start.args.counts
-
 pub returns-then-not-held : goal.returns-then-not-held
-returns-then-not-held c = stops (all_left _ _) (by_first _ (failed (held search) search))
+returns-then-not-held c =
+    let held : c.is_within-held.result ≡ within c.args.counts (capacity (words_of _ c.capacity-room.ensures)) =
+        c.is_within-held.ensures ∙ ap (within _) c.capacity-room.ensures in
+    stops (all_left _ _) (by_first _ (failed held c.if-not-held.true-raw))
 
 pub few_unsound-requires : goal.few_unsound-requires
 few_unsound-requires c =
-    (room search, sym c.none_above-few.ensures ∙ search)
+    let held : c.is_within-held.result ≡ within c.args.counts (capacity (words_of _ c.capacity-room.ensures)) =
+        c.is_within-held.ensures ∙ ap (within _) c.capacity-room.ensures in
+    (passed held c.if-not-held.false-raw, sym c.none_above-few.ensures ∙ c.if-few.true)
 
 pub some_unsound-requires : goal.some_unsound-requires
 some_unsound-requires c =
-    (room search, sym c.none_above-some.ensures ∙ search)
+    let held : c.is_within-held.result ≡ within c.args.counts (capacity (words_of _ c.capacity-room.ensures)) =
+        c.is_within-held.ensures ∙ ap (within _) c.capacity-room.ensures in
+    (passed held c.if-not-held.false-raw, sym c.none_above-some.ensures ∙ c.if-some.true)
 
 pub all_unsound-requires : goal.all_unsound-requires
-all_unsound-requires c = (room search, none_above_limit _ _ (room search))
+all_unsound-requires c =
+    let held : c.is_within-held.result ≡ within c.args.counts (capacity (words_of _ c.capacity-room.ensures)) =
+        c.is_within-held.ensures ∙ ap (within _) c.capacity-room.ensures in
+    let room = passed held c.if-not-held.false-raw in
+    (room, none_above_limit _ _ room)

@@ -23,25 +23,3 @@ compare-compared-requires c =
 pub relations_unsound-requires : goal.relations_unsound-requires
 relations_unsound-requires c =
     (c.records_unsound-line.ensures.passes c.if-line-ne-SOUND.false, c.compare-compared.ensures)
-
--- the hints, through both that write them
-pub shape_of-hints : goal.shape_of-hints
-shape_of-hints c =
-    let l = search in
-    let f : tie.After-fill-hints = l in
-    l.locate-references.kept.1.1.1.1.1.1.0 ∙ f.fill-hints.kept.1.1.1.1.0
-
-pub shape_of-of_tables : goal.shape_of-of_tables
-shape_of-of_tables c = search.locate-references.kept.1.1.1.1.1.1.1.0
-
-pub shape_of-of_columns : goal.shape_of-of_columns
-shape_of-of_columns c = search.locate-references.kept.1.1.1.1.1.1.1.1.0
-
-pub shape_of-of_data_files : goal.shape_of-of_data_files
-shape_of-of_data_files c = search.locate-references.kept.1.1.1.1.1.1.1.1.1.0
-
-pub shape_of-of_delete_files : goal.shape_of-of_delete_files
-shape_of-of_delete_files c = search.locate-references.kept.1.1.1.1.1.1.1.1.1.1.0
-
-pub shape_of-starts : goal.shape_of-starts
-shape_of-starts c = search.locate-references.kept.1.1.1.1.1.1.1.1.1.1.1.0

@@ -6,12 +6,12 @@ use Rattle.soundness.proofs.references.locate_references.Goals as goal
 
 pub locate-requires-3 : goal.locate-requires-3
 locate-requires-3 c =
-    let p = search.requires in
+    let p = c.requires in
     (p.data_files.lent, omega arith, p.tables)
 
 pub locate-requires-4 : goal.locate-requires-4
 locate-requires-4 c =
-    let p = search.requires in
+    let p = c.requires in
     (p.delete_files, omega arith, p.data_files)
 
 -- the hints, through all four
