@@ -1,6 +1,7 @@
 .PHONY: help test edits run library install uninstall fuzz bench costs check-times
 
-# What a bare `make` prints: a line for each target, from the words after '##' below. Times are for two cores.
+# What a bare `make` prints: a line for each target, from the words after '##' below. Times are for two cores, measured
+# with an older kit.
 help:
 	@awk -F ' *## *' '/^[a-z-]+:.*##/ { sub(/:.*/, "", $$1); printf "make %-12s %s\n", $$1, $$2 }' $(firstword $(MAKEFILE_LIST))
 
