@@ -1,12 +1,7 @@
 .PHONY: help test edits run library install uninstall fuzz bench costs check-times
 
-# Provers at a time, where none is asked for: four times as many as processors, since the crates of a level and the
-# edits of a batch wait for the last, and at most one for each 3 GiB.
-ifndef RT_JOBS
-export RT_JOBS := $(shell awk -v most=$$((4 * $$(nproc))) '/^MemTotal/ { n = int($$2 / 3145728); print n < 1 ? 1 : n < most ? n : most }' /proc/meminfo)
-endif
-
-# What a bare `make` prints: a line for each target, from the words after '##' below. Times are for two cores.
+# What a bare `make` prints: a line for each target, from the words after '##' below. Times are for two cores, measured
+# with an older kit.
 help:
 	@awk -F ' *## *' '/^[a-z-]+:.*##/ { sub(/:.*/, "", $$1); printf "make %-12s %s\n", $$1, $$2 }' $(firstword $(MAKEFILE_LIST))
 

@@ -14,7 +14,7 @@
  *   - A call takes less than 1 MiB of the stack, most of it for the check of the tables (622 KiB measured at the limits, in a list).
  *
  * What each call does is `Promise` in crates/ducklake/specs/Calls.antt, of a list of calls `SessionPromise` in crates/call_lists/specs/Playing.antt, and of the
- * last `firstUnsound` in Soundness.antt beside the first. Words in quotes are those of document 01.
+ * last `first_unsound` in Soundness.antt beside the first. Words in quotes are those of document 01.
  */
 #ifndef GUKOREMO_H
 #define GUKOREMO_H

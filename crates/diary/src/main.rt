@@ -1,4 +1,6 @@
 // Plays the diary session of document 01 and prints its files.
+#![tactic(auto)]
+
 ghost use Rattle.paths.specs.Text.{Written};
 ghost use Rattle.diary_session.specs.Room.{Room};
 ghost use Rattle.diary_session.specs.Program.{diary_text};
@@ -12,8 +14,9 @@ use layout::record::{
     ColumnRecord, DataFileRecord, DeleteFileRecord, ScheduledRecord, SchemaRecord, SnapshotRecord,
     StatisticsRecord, TableRecord,
 };
-use libc::STDOUT_FILENO;
 use paths::path::PATH_LENGTH;
+use std::io;
+use std::io::Write;
 
 // The tables have room for so many records each, and so many positions and words of answer are lent.
 const ROOM: usize = 8;
@@ -103,8 +106,8 @@ fn write_diary(text: &mut [u8]) -> usize
     )
 }
 
-fn main() {
+fn main(rt: HostRuntime) -> io::Result<()> {
     let mut text = [0u8; TEXT_LENGTH];
     let n = write_diary(&mut text);
-    io::write_all(STDOUT_FILENO, &text[..n]);
+    io::writer(&rt).write_all(&text[..n])
 }

@@ -44,7 +44,7 @@ impl Module {
             let Some((from, items)) = line.strip_prefix("use ").and_then(|line| line.strip_suffix('}')?.split_once(".{")) else { continue };
             for item in items.split(", ") {
                 match item.split_once(" as ") {
-                    Some((name, other)) => renamed.insert(other.trim_matches('_').to_string(), name.trim_matches('_').to_string()),
+                    Some((name, other)) => renamed.insert(other.trim_matches('◌').to_string(), name.trim_matches('◌').to_string()),
                     None => brought.insert(item.to_string(), from.to_string()),
                 };
             }
@@ -108,11 +108,11 @@ impl Names {
         Ok(module)
     }
 
-    /// The file of `Rattle·CRATE.specs.NAME` or of `Rattle·CRATE·PART.PART.NAME`; other modules are the toolchain's.
+    /// The file of `Rattle.CRATE.PART.NAME`; other modules are the toolchain's, also `Rattle.std`.
     fn path_of(&self, module: &str) -> Option<PathBuf> {
-        let (library, path) = module.strip_prefix("Rattle·")?.split_once('.')?;
-        let name = library.split('·').next()?;
-        Some(path.split('.').fold(self.crates.join(name), |path, part| path.join(part)).with_extension("antt"))
+        let (name, path) = module.strip_prefix("Rattle.")?.split_once('.')?;
+        let folder = self.crates.join(name);
+        folder.is_dir().then(|| path.split('.').fold(folder, |path, part| path.join(part)).with_extension("antt"))
     }
 
     /// What a name stands for in a file, without arguments.

@@ -91,10 +91,10 @@ pub fn play(folder: &str) -> Result<String, String> {
 fn names_in(texts: &[&str]) -> BTreeMap<String, u64> {
     let limits = [
         ("absent", ABSENT),
-        ("numberLimit", NUMBER_LIMIT),
-        ("aboveNumberLimit", NUMBER_LIMIT + 1),
-        ("recordCountLimit", RECORD_COUNT_LIMIT),
-        ("aboveRecordCountLimit", RECORD_COUNT_LIMIT + 1),
+        ("number_limit", NUMBER_LIMIT),
+        ("above_number_limit", NUMBER_LIMIT + 1),
+        ("record_count_limit", RECORD_COUNT_LIMIT),
+        ("above_record_count_limit", RECORD_COUNT_LIMIT + 1),
     ];
     let defined = texts.iter().flat_map(|text| text.lines()).filter_map(|line| line.split_once(" = "));
     let numbers = defined.filter_map(|(name, value)| Some((name, value.parse().ok()?)));

@@ -1,22 +1,14 @@
-//! Ids: copied, compared, hashed and ordered as their numbers; shown as the number, and for debugging with the name of their type.
+//! Ids: compared, hashed and ordered as their numbers; shown as the number, and for debugging with the name of their type.
 
 use crate::number::{CatalogId, FileId, RowId, SnapshotId};
 use std::cmp::Ordering;
 use std::fmt;
 use std::hash::{Hash, Hasher};
 
-/// The layout's ids are plain numbers; their source has no traits.
+/// The layout's ids are plain numbers; their source has `Clone` and `Copy`, and no other trait.
 macro_rules! ids {
     ($($name:ident)*) => {
-        $(impl Copy for $name {}
-
-        impl Clone for $name {
-            fn clone(&self) -> $name {
-                *self
-            }
-        }
-
-        impl PartialEq for $name {
+        $(impl PartialEq for $name {
             fn eq(&self, other: &$name) -> bool {
                 self.0 == other.0
             }

@@ -1,19 +1,11 @@
-//! The catalogue record and the outcome: copied, compared, hashed and shown field by field.
+//! The catalogue record and the outcome: compared, hashed and shown field by field.
 
 use crate::outcome::{Counts, Outcome};
 
-/// The layout's structs are plain data; their source has no traits.
+/// The layout's structs are plain data; their source has `Clone` and `Copy`, and no other trait.
 macro_rules! plain {
     ($($name:ident { $($field:ident)* })*) => {
-        $(impl Copy for $name {}
-
-        impl Clone for $name {
-            fn clone(&self) -> $name {
-                *self
-            }
-        }
-
-        impl PartialEq for $name {
+        $(impl PartialEq for $name {
             fn eq(&self, other: &$name) -> bool {
                 $(self.$field == other.$field)&&*
             }

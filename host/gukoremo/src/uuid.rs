@@ -76,14 +76,6 @@ impl fmt::Debug for Uuid {
     }
 }
 
-impl Copy for Uuid {}
-
-impl Clone for Uuid {
-    fn clone(&self) -> Uuid {
-        *self
-    }
-}
-
 impl PartialEq for Uuid {
     fn eq(&self, other: &Uuid) -> bool {
         self.as_u128() == other.as_u128()

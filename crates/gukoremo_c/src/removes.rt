@@ -1,0 +1,95 @@
+ghost use Rattle.ducklake.specs.Commits.{drop_schema, drop_table};
+ghost use Rattle.ducklake.specs.Calls.{commit_at, perform, Promised};
+
+use catalog_drops::drop_schema::catalog_drop_schema;
+use catalog_drops::drop_table::catalog_drop_table;
+use layout::number::CatalogId;
+use layout::outcome::{Counts, Outcome, Terms};
+
+// 'Drop schema', a commit under these terms.
+#[unsafe(no_mangle)]
+pub extern "C" fn gukoremo_raw_drop_schema(
+    snapshots: &mut [u64],
+    schemas: &mut [u64],
+    schema_names: &mut [u8],
+    tables: &mut [u64],
+    table_names: &mut [u8],
+    columns: &mut [u64],
+    column_names: &mut [u8],
+    data_files: &mut [u64],
+    delete_files: &mut [u64],
+    positions: &mut [u64],
+    statistics: &mut [u64],
+    scheduled: &mut [u64],
+    counts: Counts,
+    terms: Terms,
+    schema: CatalogId,
+    area: &mut [u64],
+) -> Outcome
+    ensures { Promised (perform (commit_at terms (drop_schema schema.0)))
+        snapshots schemas schema_names tables table_names columns column_names data_files delete_files positions statistics scheduled
+        counts area result }
+{
+    catalog_drop_schema(
+        snapshots,
+        schemas,
+        schema_names,
+        tables,
+        table_names,
+        columns,
+        column_names,
+        data_files,
+        delete_files,
+        positions,
+        statistics,
+        scheduled,
+        counts,
+        terms,
+        schema,
+        area,
+    )
+}
+
+// 'Drop table', a commit under these terms.
+#[unsafe(no_mangle)]
+pub extern "C" fn gukoremo_raw_drop_table(
+    snapshots: &mut [u64],
+    schemas: &mut [u64],
+    schema_names: &mut [u8],
+    tables: &mut [u64],
+    table_names: &mut [u8],
+    columns: &mut [u64],
+    column_names: &mut [u8],
+    data_files: &mut [u64],
+    delete_files: &mut [u64],
+    positions: &mut [u64],
+    statistics: &mut [u64],
+    scheduled: &mut [u64],
+    counts: Counts,
+    terms: Terms,
+    table: CatalogId,
+    area: &mut [u64],
+) -> Outcome
+    ensures { Promised (perform (commit_at terms (drop_table table.0)))
+        snapshots schemas schema_names tables table_names columns column_names data_files delete_files positions statistics scheduled
+        counts area result }
+{
+    catalog_drop_table(
+        snapshots,
+        schemas,
+        schema_names,
+        tables,
+        table_names,
+        columns,
+        column_names,
+        data_files,
+        delete_files,
+        positions,
+        statistics,
+        scheduled,
+        counts,
+        terms,
+        table,
+        area,
+    )
+}
