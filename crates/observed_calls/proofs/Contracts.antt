@@ -8,6 +8,8 @@ use base.Logic.{SProp, ent}
 use prog.Memory.{Memory}
 use prog.Model.{Model}
 use prog.Routine.{Routine}
+use prog.Wired.{Wired, Code}
+use mir.Syntax.{Callee}
 use types.Logic.{Logic}
 use contract.Lifetimes.{Lfts}
 use contract.Monad.{fact, Fun}
@@ -32,12 +34,13 @@ Fact T = (κs : Lfts T.signature.lifetimes) → Args T.signature κs → Res T.s
 abbrev pub Written : Type 1 → Ended → Type 2
 Written M T = (𝓤 : Ura M) (𝓛 : Logic 𝓤) → (Memory → SProp 𝓤) → (Routine → Fun 𝓤) → Clauses 𝓤 T
 
-module _ {M : Type 1} (T : Ended) (c : Written M T) (ρ : Routine) where
-  -- the routine meets clauses
+-- the code of a function, with all that it calls, and the function's name in it
+module _ {M : Type 1} (T : Ended) (c : Written M T) (code : Code) (name : Callee) where
+  -- wherever names mean this code, the routine of that name meets clauses
   abbrev Meeting : ((𝓤 : Ura M) → Clauses 𝓤 T → Clauses 𝓤 T) → Type 2
   Meeting put =
-      (𝓤 : Ura M) (𝓛 : Logic 𝓤) (𝓜 : Model 𝓤 𝓛.H) (𝓡 : Running 𝓤 𝓛.H 𝓜)
-      → Meets 𝓛 T.signature (𝓡.run ρ) (closing 𝓛 T (put 𝓤 (c 𝓤 𝓛 𝓜.mem 𝓡.run)))
+      (𝓤 : Ura M) (𝓛 : Logic 𝓤) (𝓜 : Model 𝓤 𝓛.H) (𝓡 : Running 𝓤 𝓛.H 𝓜) → Wired 𝓡.env code
+      → Meets 𝓛 T.signature (𝓡.run (𝓡.env name)) (closing 𝓛 T (put 𝓤 (c 𝓤 𝓛 𝓜.mem 𝓡.returns)))
 
   -- its own, which is the function's statement; and its own with a fact for the `ensures`
   abbrev Stated : Type 2
@@ -50,9 +53,9 @@ module _ {M : Type 1} (T : Ended) (c : Written M T) (ρ : Routine) where
       → ((𝓤 : Ura M) (𝓛 : Logic 𝓤) (mem : Memory → SProp 𝓤) (run : Routine → Fun 𝓤) (κs : Lfts T.signature.lifetimes) (a : Args T.signature κs)
       (g : (c 𝓤 𝓛 mem run κs a).ghost) (r : Res T.signature κs) (s : AtExit T κs) → ent 𝓤 ((c 𝓤 𝓛 mem run κs a).ensures g r s) (fact 𝓤 (F κs a r s)))
       → Stated → Ensuring F
-  follows F h met 𝓤 𝓛 𝓜 𝓡 =
-      weaken 𝓛 T (c 𝓤 𝓛 𝓜.mem 𝓡.run) (λ κs a g r s. fact 𝓤 (F κs a r s))
-      (λ κs a g r ws. h 𝓤 𝓛 𝓜.mem 𝓡.run κs a g r (at_exit T κs a ws)) (𝓡.run ρ) (routine_mono 𝓤 𝓛.H 𝓜 𝓡 ρ) (met 𝓤 𝓛 𝓜 𝓡)
+  follows F h met 𝓤 𝓛 𝓜 𝓡 wired =
+      weaken 𝓛 T (c 𝓤 𝓛 𝓜.mem 𝓡.returns) (λ κs a g r s. fact 𝓤 (F κs a r s))
+      (λ κs a g r ws. h 𝓤 𝓛 𝓜.mem 𝓡.returns κs a g r (at_exit T κs a ws)) (𝓡.run (𝓡.env name)) (routine_mono 𝓤 𝓛.H 𝓜 𝓡 (𝓡.env name)) (met 𝓤 𝓛 𝓜 𝓡 wired)
 
 -- a promise kept goes into any history
 pub enters : {q : Request} {w : Words} {c : Counts} {area : List ℕ} {o : Outcome} {w' : Words} {area_left : List ℕ} → Promise (perform_request q w c area) o w' area_left

@@ -3,22 +3,28 @@ use Rattle.std.specs.Prelude.{ℕ, ◌≡◌, List, ◌∷◌}
 use Rattle.layout.specs.declared.outcome.Counts.{Counts}
 use Rattle.layout.specs.declared.outcome.Outcome.{Outcome}
 use Rattle.layout.specs.Words.{Words}
-use Rattle.layout.specs.Lent.{Run, lent_now}
+use Rattle.layout.specs.Lent.{Run, MutRun, lent_now, mut_lent_now}
 use Rattle.ducklake.specs.Refusals.{accepted}
 use Rattle.ducklake.specs.Calls.{perform_fresh, Promise}
 use Rattle.ducklake.specs.Claim.{State}
 use Rattle.ducklake.specs.Observed.{Request, Observation, came_back, after, after_all, Kept, started, Seen, SeenSinceMade}
 
 -- The parameters of a public call: the twelve lent runs, then what it takes besides
-abbrev pub Runs : Type 0 → Type 0
-Runs A = Run × (Run × (Run × (Run × (Run × (Run × (Run × (Run × (Run × (Run × (Run × (Run × A)))))))))))
+abbrev pub Runs : Type 0 → Type 0 → Type 0
+Runs R A = R × (R × (R × (R × (R × (R × (R × (R × (R × (R × (R × (R × A)))))))))))
 
-abbrev pub words_in : {A : Type 0} → Runs A → Words
+-- the tables of a call that writes, and of one that reads
+abbrev pub words_in : {A : Type 0} → Runs MutRun A → Words
 words_in r =
+    mut_lent_now r.0 r.1.0 r.1.1.0 r.1.1.1.0 r.1.1.1.1.0 r.1.1.1.1.1.0 r.1.1.1.1.1.1.0 r.1.1.1.1.1.1.1.0
+    r.1.1.1.1.1.1.1.1.0 r.1.1.1.1.1.1.1.1.1.0 r.1.1.1.1.1.1.1.1.1.1.0 r.1.1.1.1.1.1.1.1.1.1.1.0
+
+abbrev pub words_read : {A : Type 0} → Runs Run A → Words
+words_read r =
     lent_now r.0 r.1.0 r.1.1.0 r.1.1.1.0 r.1.1.1.1.0 r.1.1.1.1.1.0 r.1.1.1.1.1.1.0 r.1.1.1.1.1.1.1.0
     r.1.1.1.1.1.1.1.1.0 r.1.1.1.1.1.1.1.1.1.0 r.1.1.1.1.1.1.1.1.1.1.0 r.1.1.1.1.1.1.1.1.1.1.1.0
 
-abbrev pub besides : {A : Type 0} → Runs A → A
+abbrev pub besides : {R A : Type 0} → Runs R A → A
 besides r = r.1.1.1.1.1.1.1.1.1.1.1.1
 
 -- what is seen of a request: what went in, and what came back
@@ -31,8 +37,12 @@ pub record Enters (request : Request) (w : Words) (c : Counts) (area : List ℕ)
       → Kept (after S request (came_back (seen request area o w' area_left))) xs → Kept S (seen request area o w' area_left ∷ xs)
 
 -- the same over a public call's parameters, as it is lent them and as it leaves them
-abbrev pub EntersBy : {A B : Type 0} → Request → Counts → Runs A → Run → Outcome → Runs B → Run → Type 0
+abbrev pub EntersBy : {A B : Type 0} → Request → Counts → Runs MutRun A → MutRun → Outcome → Runs MutRun B → MutRun → Type 0
 EntersBy request counts lent area o left area_left = Enters request (words_in lent) counts area.now o (words_in left) area_left.now
+
+-- and over a reading's, which is lent the tables to read alone
+abbrev pub EntersByReading : {A B : Type 0} → Request → Counts → Runs Run A → MutRun → Outcome → Runs Run B → MutRun → Type 0
+EntersByReading request counts lent area o left area_left = Enters request (words_read lent) counts area.now o (words_read left) area_left.now
 
 -- Fresh: its promise, and where it is accepted demand 3 of any history from there and of any that goes on from it
 pub record Starts (time : ℕ) (w : Words) (c : Counts) (area : List ℕ) (o : Outcome) (w' : Words) (area_left : List ℕ) : Type 0 where
