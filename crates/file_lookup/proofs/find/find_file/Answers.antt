@@ -18,4 +18,4 @@ find_record-requires c =
 
 pub returns : goal.returns
 returns c l =
-    part_found _ _ _ _ _ _ l.data_files l.delete_files (is_sound_lem _ _ l.checked c.if-not-checked.false) c.find_record.ensures.0 c.find_record.ensures.1
+    part_found _ _ _ _ _ _ l.data_files l.delete_files (is_sound_lem _ _ l.checked c.if-not-checked.false) c.find_record.ensures.lies_at c.find_record.ensures.number_after

@@ -24,16 +24,6 @@ offence : (number : ℕ) (ds : List (Versioned DeleteFile)) (file : ℕ) (new : 
 unfolding refused_place
 offence number ds file new h e q o n k g = sym (rw (eq-eqb number already_deleted h, ← e, ← q, ← (k (ap (chained ltb) q ∙ o) n), g) refl)
 
--- with 17, whatever is found
-sought : (c : tie.After-first-deleted) {f : Found} → c.first-deleted.result ≡ f → let a = c.args in
-    place_or_zero f ≡ refused_place a.number (deleted_in a.snapshots.now a.delete_files.now a.positions.now a.counts a.data_file.0) a.new-positions.now
-sought c g =
-    let deleted : tie.After-positions-deleted = search in
-    let latest : tie.After-latest-snapshot = search in
-    let taken : tie.Else1 = search in
-    let p = c.requires taken.if1.left in
-    offence _ _ _ _ taken.if1.left latest.latest-snapshot.ensures deleted.positions-deleted.ensures (p.deletes.ascending _ _) p.ascending c.first-deleted.ensures g
-
 pub returns-then-number-ne-ALREADY_DELETED : goal.returns-then-number-ne-ALREADY_DELETED
 returns-then-number-ne-ALREADY_DELETED c = other _ _ _ c.if-number-ne-ALREADY_DELETED.true
 
@@ -48,8 +38,12 @@ positions_deleted-old-requires c =
 
 pub returns-in-At : goal.returns-in-At
 returns-in-At c =
-    sought c c.in-At.is
+    -- with 17, whatever is found
+    let p = c.requires c.if-number-ne-ALREADY_DELETED.false in
+    offence _ _ _ _ c.if-number-ne-ALREADY_DELETED.false c.latest_snapshot-latest.ensures c.positions_deleted-old.ensures (p.deletes.ascending _ _) p.ascending c.first_deleted-found.ensures c.in-At.is
 
 pub returns-in-Nothing : goal.returns-in-Nothing
 returns-in-Nothing c =
-    sought c c.in-Nothing.is
+    -- with 17, whatever is found
+    let p = c.requires c.if-number-ne-ALREADY_DELETED.false in
+    offence _ _ _ _ c.if-number-ne-ALREADY_DELETED.false c.latest_snapshot-latest.ensures c.positions_deleted-old.ensures (p.deletes.ascending _ _) p.ascending c.first_deleted-found.ensures c.in-Nothing.is

@@ -49,10 +49,6 @@ next_snapshot-next-requires c =
     let looked : (let a = c.args in DeleteChecked a.snapshots.now a.data_files.now a.delete_files.now a.positions.now a.scheduled.now a.counts) = lent_checked c.requires (not-false _ c.if-not-checked.false) in
     can_follow looked.latest c.latest_snapshot-latest.ensures (search rules) (search rules)
 
-pub overflow_add-old : goal.overflow_add-old
-overflow_add-old c =
-    record { fits = omega (arith, c.positions_deleted-old.ok, c.good.1.1.1.1.1.1.1.1.1.1.0) }
-
 pub returns : goal.returns
 returns c l m =
     let looked : (let a = c.args in DeleteChecked a.snapshots.now a.data_files.now a.delete_files.now a.positions.now a.scheduled.now a.counts) = lent_checked c.requires (not-false _ c.if-not-checked.false) in
