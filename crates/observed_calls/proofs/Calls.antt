@@ -44,10 +44,10 @@ CreateSchemaEnters κs a r s =
     let (counts, (terms, (name, (area, end)))) = besides a in
     EntersBy (calls (commit_at terms (create_schema name.now))) counts a area r s (besides s).1.1.1.0
 
-pub create_schema_enters : {M : Type 1} → Ensuring {M = M} create_schema_lem.ended create_schema_lem.clauses create_schema_symbol.code create_schema_symbol.name CreateSchemaEnters
+pub create_schema_enters : {M : Type 1} → Ensuring {M = M} create_schema_lem.ended (λ 𝓤 𝓛. create_schema_lem.clauses 𝓛) create_schema_symbol.code create_schema_symbol.name CreateSchemaEnters
 create_schema_enters {M} =
     let met : create_schema_stated.statement M = create_schema_met.met in
-    follows create_schema_lem.ended create_schema_lem.clauses create_schema_symbol.code create_schema_symbol.name CreateSchemaEnters (λ 𝓤 𝓛 mem run κs a g r s. fact_mono 𝓤 _ _ (λ p. enters p)) met
+    follows create_schema_lem.ended (λ 𝓤 𝓛. create_schema_lem.clauses 𝓛) create_schema_symbol.code create_schema_symbol.name CreateSchemaEnters (λ 𝓤 𝓛 mem run κs a g r s. fact_mono 𝓤 _ _ (λ p. enters p)) met
 
 -- `catalog_create_table`
 abbrev pub CreateTableEnters : Fact create_table_lem.ended
@@ -55,10 +55,10 @@ CreateTableEnters κs a r s =
     let (counts, (terms, (schema, (name, (columns, (names, (area, end))))))) = besides a in
     EntersBy (calls (commit_at terms (create_table schema.0 name.now columns.now names.now))) counts a area r s (besides s).1.1.1.1.1.1.0
 
-pub create_table_enters : {M : Type 1} → Ensuring {M = M} create_table_lem.ended create_table_lem.clauses create_table_symbol.code create_table_symbol.name CreateTableEnters
+pub create_table_enters : {M : Type 1} → Ensuring {M = M} create_table_lem.ended (λ 𝓤 𝓛. create_table_lem.clauses 𝓛) create_table_symbol.code create_table_symbol.name CreateTableEnters
 create_table_enters {M} =
     let met : create_table_stated.statement M = create_table_met.met in
-    follows create_table_lem.ended create_table_lem.clauses create_table_symbol.code create_table_symbol.name CreateTableEnters (λ 𝓤 𝓛 mem run κs a g r s. fact_mono 𝓤 _ _ (λ p. enters p)) met
+    follows create_table_lem.ended (λ 𝓤 𝓛. create_table_lem.clauses 𝓛) create_table_symbol.code create_table_symbol.name CreateTableEnters (λ 𝓤 𝓛 mem run κs a g r s. fact_mono 𝓤 _ _ (λ p. enters p)) met
 
 -- `catalog_drop_schema`
 abbrev pub DropSchemaEnters : Fact drop_schema_lem.ended
@@ -66,10 +66,10 @@ DropSchemaEnters κs a r s =
     let (counts, (terms, (schema, (area, end)))) = besides a in
     EntersBy (calls (commit_at terms (drop_schema schema.0))) counts a area r s (besides s).1.1.1.0
 
-pub drop_schema_enters : {M : Type 1} → Ensuring {M = M} drop_schema_lem.ended drop_schema_lem.clauses drop_schema_symbol.code drop_schema_symbol.name DropSchemaEnters
+pub drop_schema_enters : {M : Type 1} → Ensuring {M = M} drop_schema_lem.ended (λ 𝓤 𝓛. drop_schema_lem.clauses 𝓛) drop_schema_symbol.code drop_schema_symbol.name DropSchemaEnters
 drop_schema_enters {M} =
     let met : drop_schema_stated.statement M = drop_schema_met.met in
-    follows drop_schema_lem.ended drop_schema_lem.clauses drop_schema_symbol.code drop_schema_symbol.name DropSchemaEnters (λ 𝓤 𝓛 mem run κs a g r s. fact_mono 𝓤 _ _ (λ p. enters p)) met
+    follows drop_schema_lem.ended (λ 𝓤 𝓛. drop_schema_lem.clauses 𝓛) drop_schema_symbol.code drop_schema_symbol.name DropSchemaEnters (λ 𝓤 𝓛 mem run κs a g r s. fact_mono 𝓤 _ _ (λ p. enters p)) met
 
 -- `catalog_drop_table`
 abbrev pub DropTableEnters : Fact drop_table_lem.ended
@@ -77,10 +77,10 @@ DropTableEnters κs a r s =
     let (counts, (terms, (table, (area, end)))) = besides a in
     EntersBy (calls (commit_at terms (drop_table table.0))) counts a area r s (besides s).1.1.1.0
 
-pub drop_table_enters : {M : Type 1} → Ensuring {M = M} drop_table_lem.ended drop_table_lem.clauses drop_table_symbol.code drop_table_symbol.name DropTableEnters
+pub drop_table_enters : {M : Type 1} → Ensuring {M = M} drop_table_lem.ended (λ 𝓤 𝓛. drop_table_lem.clauses 𝓛) drop_table_symbol.code drop_table_symbol.name DropTableEnters
 drop_table_enters {M} =
     let met : drop_table_stated.statement M = drop_table_met.met in
-    follows drop_table_lem.ended drop_table_lem.clauses drop_table_symbol.code drop_table_symbol.name DropTableEnters (λ 𝓤 𝓛 mem run κs a g r s. fact_mono 𝓤 _ _ (λ p. enters p)) met
+    follows drop_table_lem.ended (λ 𝓤 𝓛. drop_table_lem.clauses 𝓛) drop_table_symbol.code drop_table_symbol.name DropTableEnters (λ 𝓤 𝓛 mem run κs a g r s. fact_mono 𝓤 _ _ (λ p. enters p)) met
 
 -- `catalog_insert`
 abbrev pub InsertEnters : Fact insert_call.ended
@@ -88,10 +88,10 @@ InsertEnters κs a r s =
     let (counts, (terms, (table, (record_count, (uuid, (statistics, (area, end))))))) = besides a in
     EntersBy (calls (commit_at terms (insert table.0 record_count uuid statistics.now))) counts a area r s (besides s).1.1.1.1.1.1.0
 
-pub insert_enters : {M : Type 1} → Ensuring {M = M} insert_call.ended insert_call.clauses insert_call_symbol.code insert_call_symbol.name InsertEnters
+pub insert_enters : {M : Type 1} → Ensuring {M = M} insert_call.ended (λ 𝓤 𝓛. insert_call.clauses 𝓛) insert_call_symbol.code insert_call_symbol.name InsertEnters
 insert_enters {M} =
     let met : insert_call_stated.statement M = insert_call_met.met in
-    follows insert_call.ended insert_call.clauses insert_call_symbol.code insert_call_symbol.name InsertEnters (λ 𝓤 𝓛 mem run κs a g r s. fact_mono 𝓤 _ _ (λ p. enters p)) met
+    follows insert_call.ended (λ 𝓤 𝓛. insert_call.clauses 𝓛) insert_call_symbol.code insert_call_symbol.name InsertEnters (λ 𝓤 𝓛 mem run κs a g r s. fact_mono 𝓤 _ _ (λ p. enters p)) met
 
 -- `catalog_delete`
 abbrev pub DeleteEnters : Fact delete_call.ended
@@ -99,10 +99,10 @@ DeleteEnters κs a r s =
     let (counts, (terms, (data_file, (uuid, (positions, (area, end)))))) = besides a in
     EntersBy (calls (commit_at terms (delete data_file.0 uuid positions.now))) counts a area r s (besides s).1.1.1.1.1.0
 
-pub delete_enters : {M : Type 1} → Ensuring {M = M} delete_call.ended delete_call.clauses delete_call_symbol.code delete_call_symbol.name DeleteEnters
+pub delete_enters : {M : Type 1} → Ensuring {M = M} delete_call.ended (λ 𝓤 𝓛. delete_call.clauses 𝓛) delete_call_symbol.code delete_call_symbol.name DeleteEnters
 delete_enters {M} =
     let met : delete_call_stated.statement M = delete_call_met.met in
-    follows delete_call.ended delete_call.clauses delete_call_symbol.code delete_call_symbol.name DeleteEnters (λ 𝓤 𝓛 mem run κs a g r s. fact_mono 𝓤 _ _ (λ p. enters p)) met
+    follows delete_call.ended (λ 𝓤 𝓛. delete_call.clauses 𝓛) delete_call_symbol.code delete_call_symbol.name DeleteEnters (λ 𝓤 𝓛 mem run κs a g r s. fact_mono 𝓤 _ _ (λ p. enters p)) met
 
 -- `catalog_expire`
 abbrev pub ExpireEnters : Fact expire.ended
@@ -110,10 +110,10 @@ ExpireEnters κs a r s =
     let (counts, (ids, (time, (area, end)))) = besides a in
     EntersBy (calls (expire_snapshots ids.now time)) counts a area r s (besides s).1.1.1.0
 
-pub expire_enters : {M : Type 1} → Ensuring {M = M} expire.ended expire.clauses expire_symbol.code expire_symbol.name ExpireEnters
+pub expire_enters : {M : Type 1} → Ensuring {M = M} expire.ended (λ 𝓤 𝓛. expire.clauses 𝓛) expire_symbol.code expire_symbol.name ExpireEnters
 expire_enters {M} =
     let met : expire_stated.statement M = expire_met.met in
-    follows expire.ended expire.clauses expire_symbol.code expire_symbol.name ExpireEnters (λ 𝓤 𝓛 mem run κs a g r s. fact_mono 𝓤 _ _ (λ p. enters p)) met
+    follows expire.ended (λ 𝓤 𝓛. expire.clauses 𝓛) expire_symbol.code expire_symbol.name ExpireEnters (λ 𝓤 𝓛 mem run κs a g r s. fact_mono 𝓤 _ _ (λ p. enters p)) met
 
 -- `catalog_cleanup`
 abbrev pub CleanupEnters : Fact cleanup.ended
@@ -121,7 +121,7 @@ CleanupEnters κs a r s =
     let (counts, (t, (area, end))) = besides a in
     EntersBy (calls (clean_up t)) counts a area r s (besides s).1.1.0
 
-pub cleanup_enters : {M : Type 1} → Ensuring {M = M} cleanup.ended cleanup.clauses cleanup_symbol.code cleanup_symbol.name CleanupEnters
+pub cleanup_enters : {M : Type 1} → Ensuring {M = M} cleanup.ended (λ 𝓤 𝓛. cleanup.clauses 𝓛) cleanup_symbol.code cleanup_symbol.name CleanupEnters
 cleanup_enters {M} =
     let met : cleanup_stated.statement M = cleanup_met.met in
-    follows cleanup.ended cleanup.clauses cleanup_symbol.code cleanup_symbol.name CleanupEnters (λ 𝓤 𝓛 mem run κs a g r s. fact_mono 𝓤 _ _ (λ p. enters p)) met
+    follows cleanup.ended (λ 𝓤 𝓛. cleanup.clauses 𝓛) cleanup_symbol.code cleanup_symbol.name CleanupEnters (λ 𝓤 𝓛 mem run κs a g r s. fact_mono 𝓤 _ _ (λ p. enters p)) met

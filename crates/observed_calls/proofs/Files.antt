@@ -42,19 +42,19 @@ use Rattle.catalog_readings.proofs.file.catalog_find_file.Symbol as find_file_sy
 abbrev pub FirstUnsound : Fact first_unsound_lem.ended
 FirstUnsound κs a r s = r ≡ first_unsound (words_read a) (besides a).0
 
-pub first_unsound_tells : {M : Type 1} → Ensuring {M = M} first_unsound_lem.ended first_unsound_lem.clauses first_unsound_symbol.code first_unsound_symbol.name FirstUnsound
+pub first_unsound_tells : {M : Type 1} → Ensuring {M = M} first_unsound_lem.ended (λ 𝓤 𝓛. first_unsound_lem.clauses 𝓛) first_unsound_symbol.code first_unsound_symbol.name FirstUnsound
 first_unsound_tells {M} =
     let met : first_unsound_stated.statement M = first_unsound_met.met in
-    follows first_unsound_lem.ended first_unsound_lem.clauses first_unsound_symbol.code first_unsound_symbol.name FirstUnsound (λ 𝓤 𝓛 mem run κs a g r s. fact_mono 𝓤 _ _ (λ p. p)) met
+    follows first_unsound_lem.ended (λ 𝓤 𝓛. first_unsound_lem.clauses 𝓛) first_unsound_symbol.code first_unsound_symbol.name FirstUnsound (λ 𝓤 𝓛 mem run κs a g r s. fact_mono 𝓤 _ _ (λ p. p)) met
 
 -- `catalog_fresh`
 abbrev pub FreshStarts : Fact fresh.ended
 FreshStarts κs a r s = let (counts, (time, (area, end))) = besides a in Starts time (words_in a) counts area.now r (words_in s) (besides s).1.1.0.now
 
-pub fresh_starts : {M : Type 1} → Ensuring {M = M} fresh.ended fresh.clauses fresh_symbol.code fresh_symbol.name FreshStarts
+pub fresh_starts : {M : Type 1} → Ensuring {M = M} fresh.ended (λ 𝓤 𝓛. fresh.clauses 𝓛) fresh_symbol.code fresh_symbol.name FreshStarts
 fresh_starts {M} =
     let met : fresh_stated.statement M = fresh_met.met in
-    follows fresh.ended fresh.clauses fresh_symbol.code fresh_symbol.name FreshStarts (λ 𝓤 𝓛 mem run κs a g r s. fact_mono 𝓤 _ _ (λ p. record { promise = p; claim = observed _ _ _ _ _ _ _ p })) met
+    follows fresh.ended (λ 𝓤 𝓛. fresh.clauses 𝓛) fresh_symbol.code fresh_symbol.name FreshStarts (λ 𝓤 𝓛 mem run κs a g r s. fact_mono 𝓤 _ _ (λ p. record { promise = p; claim = observed _ _ _ _ _ _ _ p })) met
 
 -- `catalog_find_file`: the part is the answer that the lookup as a call gives on an area as long as it
 abbrev pub FindFileEnters : Fact find_file_lem.ended
@@ -86,7 +86,7 @@ module _ (w : Words) (c : Counts) (k : ℕ) (a b part : Bor (List ℕ)) (e : w.d
       (λ h. let z : n ≡ 0 → ⊥ = λ q. clash (eq-eqb n 0 q) h in
       rw (ap length (none_there z)) (copy_refused w c k a b part e f l part.now z))
 
-pub find_file_enters : {M : Type 1} → Ensuring {M = M} find_file_lem.ended find_file_lem.clauses find_file_symbol.code find_file_symbol.name FindFileEnters
+pub find_file_enters : {M : Type 1} → Ensuring {M = M} find_file_lem.ended (λ 𝓤 𝓛. find_file_lem.clauses 𝓛) find_file_symbol.code find_file_symbol.name FindFileEnters
 find_file_enters {M} =
     let met : find_file_stated.statement M = find_file_met.met in
-    follows find_file_lem.ended find_file_lem.clauses find_file_symbol.code find_file_symbol.name FindFileEnters (λ 𝓤 𝓛 mem run κs a g r s. fact_mono 𝓤 _ _ (λ p. enters (found-is _ _ _ _ _ _ refl refl p))) met
+    follows find_file_lem.ended (λ 𝓤 𝓛. find_file_lem.clauses 𝓛) find_file_symbol.code find_file_symbol.name FindFileEnters (λ 𝓤 𝓛 mem run κs a g r s. fact_mono 𝓤 _ _ (λ p. enters (found-is _ _ _ _ _ _ refl refl p))) met

@@ -16,8 +16,8 @@ PlayEnters κs a r s =
     let (counts', (calls', (lists', (names', (area_left, (told_left, end')))))) = besides s in
     ListPlayed calls.now lists.now names.now (words_in a) counts area.now told.now r (words_in s) area_left.now told_left.now
 
-pub play_enters : {M : Type 1} → Ensuring {M = M} play.ended play.clauses play_symbol.code play_symbol.name PlayEnters
+pub play_enters : {M : Type 1} → Ensuring {M = M} play.ended (λ 𝓤 𝓛. play.clauses 𝓛) play_symbol.code play_symbol.name PlayEnters
 play_enters {M} =
     let met : play_stated.statement M = play_met.met in
-    follows play.ended play.clauses play_symbol.code play_symbol.name PlayEnters
+    follows play.ended (λ 𝓤 𝓛. play.clauses 𝓛) play_symbol.code play_symbol.name PlayEnters
     (λ 𝓤 𝓛 mem run κs a g r s. fact_mono 𝓤 _ _ (λ p. record { promise = p; kept = list_kept _ _ _ _ _ _ _ p; claim = list_claim _ _ _ _ _ _ _ p })) met

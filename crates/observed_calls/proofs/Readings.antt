@@ -48,10 +48,10 @@ ListSchemasEnters κs a r s =
     let (counts, (snapshot, (area, end))) = besides a in
     EntersByReading (reads (query_at snapshot.0 Query.schemas)) counts a area r s (besides s).1.1.0
 
-pub list_schemas_enters : {M : Type 1} → Ensuring {M = M} list_schemas_lem.ended list_schemas_lem.clauses list_schemas_symbol.code list_schemas_symbol.name ListSchemasEnters
+pub list_schemas_enters : {M : Type 1} → Ensuring {M = M} list_schemas_lem.ended (λ 𝓤 𝓛. list_schemas_lem.clauses 𝓛) list_schemas_symbol.code list_schemas_symbol.name ListSchemasEnters
 list_schemas_enters {M} =
     let met : list_schemas_stated.statement M = list_schemas_met.met in
-    follows list_schemas_lem.ended list_schemas_lem.clauses list_schemas_symbol.code list_schemas_symbol.name ListSchemasEnters (λ 𝓤 𝓛 mem run κs a g r s. fact_mono 𝓤 _ _ (λ p. enters p)) met
+    follows list_schemas_lem.ended (λ 𝓤 𝓛. list_schemas_lem.clauses 𝓛) list_schemas_symbol.code list_schemas_symbol.name ListSchemasEnters (λ 𝓤 𝓛 mem run κs a g r s. fact_mono 𝓤 _ _ (λ p. enters p)) met
 
 -- `catalog_list_tables`
 abbrev pub ListTablesEnters : Fact list_tables_lem.ended
@@ -59,10 +59,10 @@ ListTablesEnters κs a r s =
     let (counts, (snapshot, (schema, (area, end)))) = besides a in
     EntersByReading (reads (query_at snapshot.0 (Query.tables schema.0))) counts a area r s (besides s).1.1.1.0
 
-pub list_tables_enters : {M : Type 1} → Ensuring {M = M} list_tables_lem.ended list_tables_lem.clauses list_tables_symbol.code list_tables_symbol.name ListTablesEnters
+pub list_tables_enters : {M : Type 1} → Ensuring {M = M} list_tables_lem.ended (λ 𝓤 𝓛. list_tables_lem.clauses 𝓛) list_tables_symbol.code list_tables_symbol.name ListTablesEnters
 list_tables_enters {M} =
     let met : list_tables_stated.statement M = list_tables_met.met in
-    follows list_tables_lem.ended list_tables_lem.clauses list_tables_symbol.code list_tables_symbol.name ListTablesEnters (λ 𝓤 𝓛 mem run κs a g r s. fact_mono 𝓤 _ _ (λ p. enters p)) met
+    follows list_tables_lem.ended (λ 𝓤 𝓛. list_tables_lem.clauses 𝓛) list_tables_symbol.code list_tables_symbol.name ListTablesEnters (λ 𝓤 𝓛 mem run κs a g r s. fact_mono 𝓤 _ _ (λ p. enters p)) met
 
 -- `catalog_list_columns`
 abbrev pub ListColumnsEnters : Fact list_columns_lem.ended
@@ -70,10 +70,10 @@ ListColumnsEnters κs a r s =
     let (counts, (snapshot, (table, (area, end)))) = besides a in
     EntersByReading (reads (query_at snapshot.0 (Query.columns table.0))) counts a area r s (besides s).1.1.1.0
 
-pub list_columns_enters : {M : Type 1} → Ensuring {M = M} list_columns_lem.ended list_columns_lem.clauses list_columns_symbol.code list_columns_symbol.name ListColumnsEnters
+pub list_columns_enters : {M : Type 1} → Ensuring {M = M} list_columns_lem.ended (λ 𝓤 𝓛. list_columns_lem.clauses 𝓛) list_columns_symbol.code list_columns_symbol.name ListColumnsEnters
 list_columns_enters {M} =
     let met : list_columns_stated.statement M = list_columns_met.met in
-    follows list_columns_lem.ended list_columns_lem.clauses list_columns_symbol.code list_columns_symbol.name ListColumnsEnters (λ 𝓤 𝓛 mem run κs a g r s. fact_mono 𝓤 _ _ (λ p. enters p)) met
+    follows list_columns_lem.ended (λ 𝓤 𝓛. list_columns_lem.clauses 𝓛) list_columns_symbol.code list_columns_symbol.name ListColumnsEnters (λ 𝓤 𝓛 mem run κs a g r s. fact_mono 𝓤 _ _ (λ p. enters p)) met
 
 -- `catalog_table_by_name`
 abbrev pub TableByNameEnters : Fact table_by_name_lem.ended
@@ -81,10 +81,10 @@ TableByNameEnters κs a r s =
     let (counts, (snapshot, (schema, (name, (area, end))))) = besides a in
     EntersByReading (reads (query_at snapshot.0 (Query.table_named schema.0 name.now))) counts a area r s (besides s).1.1.1.1.0
 
-pub table_by_name_enters : {M : Type 1} → Ensuring {M = M} table_by_name_lem.ended table_by_name_lem.clauses table_by_name_symbol.code table_by_name_symbol.name TableByNameEnters
+pub table_by_name_enters : {M : Type 1} → Ensuring {M = M} table_by_name_lem.ended (λ 𝓤 𝓛. table_by_name_lem.clauses 𝓛) table_by_name_symbol.code table_by_name_symbol.name TableByNameEnters
 table_by_name_enters {M} =
     let met : table_by_name_stated.statement M = table_by_name_met.met in
-    follows table_by_name_lem.ended table_by_name_lem.clauses table_by_name_symbol.code table_by_name_symbol.name TableByNameEnters (λ 𝓤 𝓛 mem run κs a g r s. fact_mono 𝓤 _ _ (λ p. enters p)) met
+    follows table_by_name_lem.ended (λ 𝓤 𝓛. table_by_name_lem.clauses 𝓛) table_by_name_symbol.code table_by_name_symbol.name TableByNameEnters (λ 𝓤 𝓛 mem run κs a g r s. fact_mono 𝓤 _ _ (λ p. enters p)) met
 
 -- `catalog_list_files`
 abbrev pub ListFilesEnters : Fact list_files_lem.ended
@@ -92,10 +92,10 @@ ListFilesEnters κs a r s =
     let (counts, (snapshot, (table, (area, end)))) = besides a in
     EntersByReading (reads (query_at snapshot.0 (Query.files table.0))) counts a area r s (besides s).1.1.1.0
 
-pub list_files_enters : {M : Type 1} → Ensuring {M = M} list_files_lem.ended list_files_lem.clauses list_files_symbol.code list_files_symbol.name ListFilesEnters
+pub list_files_enters : {M : Type 1} → Ensuring {M = M} list_files_lem.ended (λ 𝓤 𝓛. list_files_lem.clauses 𝓛) list_files_symbol.code list_files_symbol.name ListFilesEnters
 list_files_enters {M} =
     let met : list_files_stated.statement M = list_files_met.met in
-    follows list_files_lem.ended list_files_lem.clauses list_files_symbol.code list_files_symbol.name ListFilesEnters (λ 𝓤 𝓛 mem run κs a g r s. fact_mono 𝓤 _ _ (λ p. enters p)) met
+    follows list_files_lem.ended (λ 𝓤 𝓛. list_files_lem.clauses 𝓛) list_files_symbol.code list_files_symbol.name ListFilesEnters (λ 𝓤 𝓛 mem run κs a g r s. fact_mono 𝓤 _ _ (λ p. enters p)) met
 
 -- `catalog_list_filtered_files`
 abbrev pub ListFilteredFilesEnters : Fact list_filtered_files_lem.ended
@@ -103,10 +103,10 @@ ListFilteredFilesEnters κs a r s =
     let (counts, (snapshot, (table, (column, (scalar, (area, end)))))) = besides a in
     EntersByReading (reads (query_at snapshot.0 (Query.filtered_files table.0 column scalar))) counts a area r s (besides s).1.1.1.1.1.0
 
-pub list_filtered_files_enters : {M : Type 1} → Ensuring {M = M} list_filtered_files_lem.ended list_filtered_files_lem.clauses list_filtered_files_symbol.code list_filtered_files_symbol.name ListFilteredFilesEnters
+pub list_filtered_files_enters : {M : Type 1} → Ensuring {M = M} list_filtered_files_lem.ended (λ 𝓤 𝓛. list_filtered_files_lem.clauses 𝓛) list_filtered_files_symbol.code list_filtered_files_symbol.name ListFilteredFilesEnters
 list_filtered_files_enters {M} =
     let met : list_filtered_files_stated.statement M = list_filtered_files_met.met in
-    follows list_filtered_files_lem.ended list_filtered_files_lem.clauses list_filtered_files_symbol.code list_filtered_files_symbol.name ListFilteredFilesEnters (λ 𝓤 𝓛 mem run κs a g r s. fact_mono 𝓤 _ _ (λ p. enters p)) met
+    follows list_filtered_files_lem.ended (λ 𝓤 𝓛. list_filtered_files_lem.clauses 𝓛) list_filtered_files_symbol.code list_filtered_files_symbol.name ListFilteredFilesEnters (λ 𝓤 𝓛 mem run κs a g r s. fact_mono 𝓤 _ _ (λ p. enters p)) met
 
 -- `catalog_list_rows`
 abbrev pub ListRowsEnters : Fact list_rows_lem.ended
@@ -114,10 +114,10 @@ ListRowsEnters κs a r s =
     let (counts, (snapshot, (table, (area, end)))) = besides a in
     EntersByReading (reads (query_at snapshot.0 (Query.rows table.0))) counts a area r s (besides s).1.1.1.0
 
-pub list_rows_enters : {M : Type 1} → Ensuring {M = M} list_rows_lem.ended list_rows_lem.clauses list_rows_symbol.code list_rows_symbol.name ListRowsEnters
+pub list_rows_enters : {M : Type 1} → Ensuring {M = M} list_rows_lem.ended (λ 𝓤 𝓛. list_rows_lem.clauses 𝓛) list_rows_symbol.code list_rows_symbol.name ListRowsEnters
 list_rows_enters {M} =
     let met : list_rows_stated.statement M = list_rows_met.met in
-    follows list_rows_lem.ended list_rows_lem.clauses list_rows_symbol.code list_rows_symbol.name ListRowsEnters (λ 𝓤 𝓛 mem run κs a g r s. fact_mono 𝓤 _ _ (λ p. enters p)) met
+    follows list_rows_lem.ended (λ 𝓤 𝓛. list_rows_lem.clauses 𝓛) list_rows_symbol.code list_rows_symbol.name ListRowsEnters (λ 𝓤 𝓛 mem run κs a g r s. fact_mono 𝓤 _ _ (λ p. enters p)) met
 
 -- `catalog_snapshot_by_time`
 abbrev pub SnapshotByTimeEnters : Fact snapshot_by_time_lem.ended
@@ -125,10 +125,10 @@ SnapshotByTimeEnters κs a r s =
     let (counts, (t, (area, end))) = besides a in
     EntersByReading (reads (by_time t)) counts a area r s (besides s).1.1.0
 
-pub snapshot_by_time_enters : {M : Type 1} → Ensuring {M = M} snapshot_by_time_lem.ended snapshot_by_time_lem.clauses snapshot_by_time_symbol.code snapshot_by_time_symbol.name SnapshotByTimeEnters
+pub snapshot_by_time_enters : {M : Type 1} → Ensuring {M = M} snapshot_by_time_lem.ended (λ 𝓤 𝓛. snapshot_by_time_lem.clauses 𝓛) snapshot_by_time_symbol.code snapshot_by_time_symbol.name SnapshotByTimeEnters
 snapshot_by_time_enters {M} =
     let met : snapshot_by_time_stated.statement M = snapshot_by_time_met.met in
-    follows snapshot_by_time_lem.ended snapshot_by_time_lem.clauses snapshot_by_time_symbol.code snapshot_by_time_symbol.name SnapshotByTimeEnters (λ 𝓤 𝓛 mem run κs a g r s. fact_mono 𝓤 _ _ (λ p. enters p)) met
+    follows snapshot_by_time_lem.ended (λ 𝓤 𝓛. snapshot_by_time_lem.clauses 𝓛) snapshot_by_time_symbol.code snapshot_by_time_symbol.name SnapshotByTimeEnters (λ 𝓤 𝓛 mem run κs a g r s. fact_mono 𝓤 _ _ (λ p. enters p)) met
 
 -- `catalog_copy_file`
 abbrev pub CopyFileEnters : Fact copy_file_lem.ended
@@ -136,7 +136,7 @@ CopyFileEnters κs a r s =
     let (counts, (id, (area, end))) = besides a in
     EntersByReading (looks_up id.0) counts a area r s (besides s).1.1.0
 
-pub copy_file_enters : {M : Type 1} → Ensuring {M = M} copy_file_lem.ended copy_file_lem.clauses copy_file_symbol.code copy_file_symbol.name CopyFileEnters
+pub copy_file_enters : {M : Type 1} → Ensuring {M = M} copy_file_lem.ended (λ 𝓤 𝓛. copy_file_lem.clauses 𝓛) copy_file_symbol.code copy_file_symbol.name CopyFileEnters
 copy_file_enters {M} =
     let met : copy_file_stated.statement M = copy_file_met.met in
-    follows copy_file_lem.ended copy_file_lem.clauses copy_file_symbol.code copy_file_symbol.name CopyFileEnters (λ 𝓤 𝓛 mem run κs a g r s. fact_mono 𝓤 _ _ (λ p. enters p)) met
+    follows copy_file_lem.ended (λ 𝓤 𝓛. copy_file_lem.clauses 𝓛) copy_file_symbol.code copy_file_symbol.name CopyFileEnters (λ 𝓤 𝓛 mem run κs a g r s. fact_mono 𝓤 _ _ (λ p. enters p)) met
