@@ -12,8 +12,8 @@ use Rattle.diary_listing.proofs.write_lines.Given as goal
 abbrev pub invariant-loop-k : goal.invariant-loop-k
 invariant-loop-k l =
     (l.k ≤ length l.listed) × (length l.text ≡ length l.initial.text)
-    × ((l : FilesLent l.checked l.data_files l.delete_files l.counts)
-    → StillToWrite l.initial.text l.at (lines l.words l.counts l.listed) l.text l.end (lines l.words l.counts (drop l.k l.listed)))
+    × ((f : FilesLent l.checked l.data_files l.delete_files l.counts)
+    → StillToWrite l.initial.text l.at (lines f.words l.counts l.listed) l.text l.end (lines f.words l.counts (drop l.k l.listed)))
 
 abbrev pub decreases-loop-k : goal.decreases-loop-k
 decreases-loop-k l = length l.listed - l.k

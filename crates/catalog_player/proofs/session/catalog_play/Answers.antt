@@ -19,7 +19,7 @@ call_at-call-requires c =
 
 pub offset_bounds-area-answered : goal.offset_bounds-area-answered
 offset_bounds-area-answered c =
-    omega (arith, c.loop-i.invariant.0.area, c.loop-i.invariant.0.playing.room, c.good)
+    omega (arith, c.loop-i.invariant.0.area, c.loop-i.invariant.0.playing.room)
 
 -- the answers so far are words of the area
 pub slice_bounds-play-count : goal.slice_bounds-play-count
@@ -37,7 +37,10 @@ slice_bounds-play-end c = omega arith
 pub play-outcome-requires : goal.play-outcome-requires
 play-outcome-requires c =
     let a = c.args in
-    (c.judge-judged.ensures.0, played_spans a.calls.now a.lists.now a.names.now a.told.now c.calls_played-n.ensures.0 c.loop-i-test.true c.call_at-call.ensures)
+    record {
+      checked_value = c.judge-judged.ensures.0;
+      call_value = played_spans a.calls.now a.lists.now a.names.now a.told.now c.calls_played-n.ensures.0 c.loop-i-test.true c.call_at-call.ensures;
+    }
 
 pub write_outcome-requires : goal.write_outcome-requires
 write_outcome-requires c =
@@ -45,21 +48,23 @@ write_outcome-requires c =
 
 pub overflow_add-answered : goal.overflow_add-answered
 overflow_add-answered c =
-    omega (arith, answer_fits (asked_of _ _ _) _ _ c.loop-i.area c.loop-i.answered c.loop-i.invariant.0.playing.room c.play-outcome.ensures, c.loop-i.invariant.0.area, c.good)
+    omega (arith, answer_fits (asked_of _ _ _) _ _ c.loop-i.area c.loop-i.answered c.loop-i.invariant.0.playing.room c.play-outcome.ensures, c.loop-i.invariant.0.area)
 
 pub overflow_add-i : goal.overflow_add-i
 overflow_add-i c =
-    omega (arith, c.loop-i-test.true, c.calls_played-n.ensures.1, c.good)
+    omega (arith, c.loop-i-test.true, c.calls_played-n.ensures.1)
 
 pub loop-i-smaller : goal.loop-i-smaller
 loop-i-smaller c =
     omega (arith, c.loop-i-test.true)
 
 pub loop-i-preserved : goal.loop-i-preserved
-loop-i-preserved c = (
+loop-i-preserved c =
+    let k = c.play-outcome.auto in
+    let same = lengths_kept _ _ (Unit {0}) (k.snapshots, k.schemas, k.schema_names, k.tables, k.table_names, k.columns, k.column_names, k.data_files, k.delete_files, k.positions, k.statistics, k.scheduled, tt {0}) in (
   held_next _ _ _ _ _ _ _ c.loop-i.invariant.0 c.loop-i-test.true c.calls_played-n.ensures.2 c.call_at-call.ensures c.play-outcome.ensures
-      (lengths_kept _ _ _ c.play-outcome.auto.snapshots) c.play-outcome.auto.area c.write_outcome.ensures c.write_outcome.auto.w,
-  lasts (asked_of _ _ _) _ _ _ c.play-outcome.ensures (lengths_kept _ _ _ c.play-outcome.auto.snapshots) c.judge-judged.ensures.1,
+      same c.play-outcome.auto.area c.write_outcome.ensures c.write_outcome.auto.w,
+  lasts (asked_of _ _ _) _ _ _ c.play-outcome.ensures same c.judge-judged.ensures.1,
 )
 
 pub shape_of-snapshots : goal.shape_of-snapshots

@@ -9,4 +9,4 @@ list_filtered_files-requires c = filtered_lent _ _ c.check-checked.ensures
 
 pub returns : goal.returns
 returns c =
-    rw (to_z-of_z c.fits.scalar) at (c.list_filtered_files.ensures (filtered_lent _ _ c.check-checked.ensures))
+    rw (to_z-of_z c.ranges.scalar) at (c.list_filtered_files.ensures (filtered_lent _ _ c.check-checked.ensures))
