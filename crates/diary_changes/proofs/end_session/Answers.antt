@@ -10,5 +10,5 @@ pub returns : goal.returns
 unfolding ended
 returns c =
     promise_on (perform delete_zero)
-    (promise_on (perform delete_one) c.catalog_insert.ensures c.catalog_delete.ensures)
-    c.catalog_delete-2.ensures
+    (promise_on (perform delete_one) c.catalog_insert-two.ensures c.catalog_delete-one.ensures)
+    c.catalog_delete.ensures

@@ -61,7 +61,7 @@ loop-i-smaller c =
 pub loop-i-preserved : goal.loop-i-preserved
 loop-i-preserved c =
     let k = c.play-outcome.auto in
-    let same = lengths_kept _ _ (Unit {0}) (k.snapshots, k.schemas, k.schema_names, k.tables, k.table_names, k.columns, k.column_names, k.data_files, k.delete_files, k.positions, k.statistics, k.scheduled, tt {0}) in (
+    let same = lengths_kept _ _ (Unit {0}) (k.snapshots, (k.schemas, (k.schema_names, (k.tables, (k.table_names, (k.columns, (k.column_names, (k.data_files, (k.delete_files, (k.positions, (k.statistics, (k.scheduled, tt)))))))))))) in (
   held_next _ _ _ _ _ _ _ c.loop-i.invariant.0 c.loop-i-test.true c.calls_played-n.ensures.2 c.call_at-call.ensures c.play-outcome.ensures
       same c.play-outcome.auto.area c.write_outcome.ensures c.write_outcome.auto.w,
   lasts (asked_of _ _ _) _ _ _ c.play-outcome.ensures same c.judge-judged.ensures.1,
