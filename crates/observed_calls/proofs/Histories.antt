@@ -72,4 +72,4 @@ demand_three {o} {w₀} F made xs ys h =
   where
     kept_apart : (S : State) (xs ys : List Observation) → Kept S (xs ++ ys) → Kept S xs × Kept (after_all S xs) ys
     kept_apart S [] ys p = (tt, p)
-    kept_apart S (x ∷ xs) ys p = let r = kept_apart _ xs ys p.1 in ((p.0, r.0), r.1)
+    kept_apart S (x ∷ xs) ys p = let r = kept_apart (after S x.request (came_back x)) xs ys p.1 in ((p.0, r.0), r.1)
