@@ -1,5 +1,5 @@
 -- What sound tables give the functions behind the check: lengths and limits, orders by words, ranges, lives, and the facts of soundness.
-use Prim.Native.Nat.{ℕ, ◌-◌, ◌≤◌, ◌<◌}
+use Prim.Native.Nat.{ℕ, ◌≤◌, ◌<◌}
 use mathlib.Core.Path.{◌≡◌, sym, ap, ◌∙◌}
 use mathlib.Core.Logic.{◌⊎◌}
 use mathlib.Core.Bool.{Bool, true, ◌&&◌}
@@ -8,8 +8,8 @@ use native.Mathlib.Omega.{arith}
 use lib.Dec.{leb, ltb, eqb}
 use lib.ListN.{length}
 use borrow.Author.Tests.{eqb-true, ltb-true, le-leb}
-use Rattle.lists.specs.Lists.{range, all, any, pairwise, chained}
-use Rattle.lists.specs.Runs.{at, field, fields}
+use Rattle.lists.specs.Lists.{all, any, pairwise, chained}
+use Rattle.lists.specs.Runs.{field, fields}
 use Rattle.lists.proofs.Tests.{Reflects, either, both, reflects_as, reflects_and, reflects_or, reflects_leb, reflects_ltb, reflects_eqb, reflects_it}
 use Rattle.lists.proofs.Members.{In, each, Any, in_all, in_map, range_in, any_in}
 use Rattle.lists.proofs.Selections.{any_true, filter_one}

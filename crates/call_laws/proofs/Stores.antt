@@ -1,6 +1,6 @@
 -- The twelve runs, each as consecutive pieces: what is loaded stands at its front, and `store` replaces those words. So a run is as it was where the
 -- words of its records are, and the laws of records added, changed and removed are said once for all runs.
-use Prim.Native.Nat.{ℕ, ◌+◌, ◌*◌, ◌-◌, ◌≤◌, max}
+use Prim.Native.Nat.{ℕ, ◌*◌, ◌-◌, ◌≤◌, max}
 use mathlib.Core.Path.{◌≡◌, refl, sym, ap, ap₂, ◌∙◌}
 use mathlib.Core.Bool.{Bool, true, false, cond, ◌&&◌}
 use mathlib.Core.List.{List, map, flat_map, ◌++◌}
@@ -9,7 +9,7 @@ use native.Mathlib.Nat.{zero-add}
 use lib.Dec.{eqb}
 use lib.ListN.{length, take, get_or, set, length-append, length-map}
 use Rattle.lists.specs.Lists.{range, filter}
-use Rattle.lists.specs.Runs.{Layout, at, table, overwrite, replace, set_where, each_record}
+use Rattle.lists.specs.Runs.{Layout, at, overwrite, replace, set_where, each_record}
 use Rattle.lists.proofs.Tests.{both}
 use Rattle.lists.proofs.Members.{In, in_range_lem}
 use Rattle.lists.proofs.Selections.{flat_map_append, flat_map_map, map-append}

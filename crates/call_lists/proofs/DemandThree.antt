@@ -1,6 +1,6 @@
 -- Demand 3 of lists that were played. Each record is a request that kept its promise on what the one before left, so a list goes into any history; and of a list that
 -- begins with Fresh the claim holds, of what it leaves in its caller's runs.
-use Prim.Native.Nat.{ℕ, zero, suc, ◌+◌, ◌*◌, ◌≤◌, ◌<◌}
+use Prim.Native.Nat.{ℕ, zero, suc, ◌+◌, ◌≤◌, ◌<◌}
 use mathlib.Core.Path.{◌≡◌, refl, sym, ap, ap₂, subst, ◌∙◌}
 use mathlib.Core.Bool.{true, cond}
 use mathlib.Core.List.{List, [], ◌∷◌, ◌++◌, map}
@@ -19,13 +19,13 @@ use Rattle.ducklake.specs.Readings.{Query}
 use Rattle.ducklake.specs.Calls.{Result, perform_fresh, query_at, Promise}
 use Rattle.ducklake.specs.Journal.{TableRows}
 use Rattle.ducklake.specs.Claim.{State, is_retained}
-use Rattle.ducklake.specs.Observed.{Request, calls, reads, looks_up, perform_request, Observation, came_back, after, after_all, Kept, started, Reads, given, Seen, SeenSinceMade}
+use Rattle.ducklake.specs.Observed.{Request, calls, reads, looks_up, perform_request, Observation, came_back, after, after_all, Kept, Reads, given, Seen, SeenSinceMade}
 use Rattle.ducklake.proofs.claim.Observed.{observed}
 use Rattle.call_lists.specs.declared.outcome.Session.{Session}
-use Rattle.call_lists.specs.Records.{call_size, call_at}
-use Rattle.call_lists.specs.Calls.{made_fresh, Asked, fresh, asks, perform_asked, request_of, asked_of}
-use Rattle.call_lists.specs.Playing.{Played, left, result_on, told_size, Tells, calls_played, asked, played, result, SessionPromise}
-use Rattle.call_lists.specs.Demand.{number_told, length_told, answer_at, request, outcome_told, observation, observations, answer_start, ListKept, state_made, state_after, ListClaim}
+use Rattle.call_lists.specs.Records.{call_at}
+use Rattle.call_lists.specs.Calls.{made_fresh, Asked, asks, perform_asked}
+use Rattle.call_lists.specs.Playing.{Played, left, result_on, calls_played, asked, played, result, SessionPromise}
+use Rattle.call_lists.specs.Demand.{number_told, length_told, answer_at, request, observation, observations, answer_start, ListKept, state_made, state_after, ListClaim}
 use Rattle.call_lists.proofs.KindLaws.{fresh-is, request_is, asked_later}
 use Rattle.call_lists.proofs.Leading.{counted_asks}
 use Rattle.call_lists.proofs.Answers.{area_left_lem, answer_left, starts}

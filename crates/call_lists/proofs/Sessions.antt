@@ -1,8 +1,8 @@
 -- What a list comes to, record by record: no answer is longer than what is left of the area, and each outcome is told.
-use Prim.Native.Nat.{ℕ, zero, suc, ◌+◌, ◌-◌, ◌*◌, ◌/◌, ◌≤◌, ◌<◌, min}
+use Prim.Native.Nat.{ℕ, suc, ◌+◌, ◌-◌, ◌*◌, ◌/◌, ◌≤◌, ◌<◌, min}
 use mathlib.Core.Path.{◌≡◌, refl, sym, ap, ap₂, subst, ◌∙◌}
 use mathlib.Core.Bool.{true}
-use mathlib.Core.List.{List, [], ◌∷◌, ◌++◌, append-nil}
+use mathlib.Core.List.{List, ◌++◌, append-nil}
 use native.Mathlib.Omega.{arith}
 use native.Mathlib.Nat.{add-zero, eq-or-lt_of_le}
 use lib.ListN.{length, get_or, take, drop, length-drop, get_or-append}
@@ -19,7 +19,7 @@ use Rattle.call_laws.proofs.Areas.{Fits, fresh_area, request_area}
 use Rattle.call_lists.specs.declared.record.CallRecord.{CallRecord}
 use Rattle.call_lists.specs.Records.{call_size, call_at}
 use Rattle.call_lists.specs.Calls.{Asked, fresh, asks, perform_asked, spans_fit}
-use Rattle.call_lists.specs.Playing.{Played, left, result_on, told_size, told_words, Tells, calls_played, asked, played, result, SessionPromise}
+use Rattle.call_lists.specs.Playing.{Played, result_on, told_size, told_words, Tells, calls_played, asked, played, result, SessionPromise}
 use Rattle.call_lists.proofs.KindLaws.{asked_spans}
 use Rattle.call_lists.proofs.Leading.{counted_asks}
 

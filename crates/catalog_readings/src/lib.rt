@@ -1,4 +1,6 @@
 // The public readings: schemas, tables, columns, snapshots, files, rows and a file's record, on any content of the runs, any counts, any arguments.
+#![tactic(auto)]
+
 pub mod columns;
 pub mod file;
 pub mod files;

@@ -1,4 +1,6 @@
 // Column types, and words as signed values.
+#![tactic(auto)]
+
 ghost use Rattle.std.specs.Prelude.{◌≡◌, ◌&&◌, ℤ};
 ghost use Rattle.std.specs.Int.Signed.{le_z};
 ghost use Rattle.layout.specs.Types.{signed, is_type, in_type, bound_at_most};

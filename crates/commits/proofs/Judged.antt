@@ -12,7 +12,7 @@ use Rattle.layout.specs.declared.outcome.Counts.{Counts}
 use Rattle.layout.specs.Catalog.{Versioned, Snapshot, Table}
 use Rattle.layout.specs.Names.{name_size, is_name_byte, is_name_argument, padded}
 use Rattle.layout.specs.Words.{Words, load, snapshots_in, schemas_in, tables_in, data_files_in}
-use Rattle.ducklake.specs.Liveness.{latest_of, latest, latest_id, schemas_at, tables_at, is_live}
+use Rattle.ducklake.specs.Liveness.{latest_of, latest_id, schemas_at, tables_at, is_live}
 use Rattle.ducklake.specs.Soundness.{snapshot_in_range, sound}
 use Rattle.ducklake.specs.Arguments.{clashes}
 use Rattle.ducklake.specs.Commits.{Change, numbers_fit, following}

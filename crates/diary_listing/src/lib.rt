@@ -1,4 +1,6 @@
 // The files of the table `diary` as text, a line each. The tables are checked once; the files are read and looked up in what was checked.
+#![tactic(auto)]
+
 ghost use Rattle.std.specs.Prelude.{◌+◌, ◌≤◌, length};
 ghost use Rattle.layout.specs.Lent.{lent_now, read_at_entry};
 ghost use Rattle.paths.specs.Text.{Written};

@@ -1,4 +1,6 @@
 // The diary session of document 01, its first three calls.
+#![tactic(auto)]
+
 ghost use Rattle.ducklake.specs.Calls.{Promised};
 ghost use Rattle.diary_session.specs.Session.{begun};
 

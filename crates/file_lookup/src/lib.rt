@@ -1,3 +1,5 @@
 // A file's record, itself and copied.
+#![tactic(auto)]
+
 pub mod copy;
 pub mod find;

@@ -1,5 +1,5 @@
 -- The lent tables by computation: limits, the words of each record, names, types, what fits and what is stored, at both sides of each edge.
-use Prim.Native.Nat.{ℕ, ◌+◌, ◌-◌, ◌^◌}
+use Prim.Native.Nat.{ℕ, ◌-◌, ◌^◌}
 use mathlib.Core.Path.{◌≡◌, refl}
 use mathlib.Core.Bool.{Bool, true, not, ◌&&◌}
 use mathlib.Core.List.{List, [], ◌∷◌, ◌++◌, map, flat_map}
@@ -10,10 +10,10 @@ use Rattle.lists.specs.Lists.{range, all, any, agree, sum}
 use Rattle.lists.specs.Runs.{replace}
 use Rattle.layout.specs.declared.outcome.Counts.{Counts}
 use Rattle.layout.specs.Catalog.{absent, number_limit, record_count_limit, column_limit, Catalog}
-use Rattle.layout.specs.Records.{uuid_of, snapshot_layout, snapshot_words, schema_words, table_words, column_words, data_file_words, delete_file_words, statistics_words, scheduled_words}
+use Rattle.layout.specs.Records.{uuid_of, snapshot_words, schema_words, table_words, column_words, data_file_words, delete_file_words, statistics_words, scheduled_words}
 use Rattle.layout.specs.Names.{name_size, name_at, is_name_byte, named_then_zero, is_name, is_name_argument, padded, same_name}
 use Rattle.layout.specs.Types.{signed, types, is_type, in_type}
-use Rattle.layout.specs.Words.{Words, table_limit, position_limit, snapshot_at, schema_at, table_at, column_at, data_file_at, delete_file_at, statistics_at, scheduled_at, positions_before, load, store, counts_of, capacity, within, fits}
+use Rattle.layout.specs.Words.{Words, table_limit, position_limit, snapshot_at, schema_at, table_at, column_at, data_file_at, delete_file_at, statistics_at, scheduled_at, positions_before, store, counts_of, capacity, within, fits}
 
 limits : ◌≡◌ {A = List ℕ} (absent ∷ number_limit ∷ record_count_limit ∷ column_limit ∷ table_limit ∷ position_limit ∷ name_size ∷ [])
     (18446744073709551615 ∷ 4611686018427387904 ∷ 1048576 ∷ 16 ∷ 4096 ∷ 65536 ∷ 32 ∷ [])

@@ -1,20 +1,18 @@
 -- Records of one key that stand together: why they do where keys never fall, and what follows for tests and selections by the key.
-use Prim.Native.Nat.{ℕ, ◌+◌, ◌-◌, ◌≤◌, ◌<◌}
+use Prim.Native.Nat.{ℕ, ◌+◌, ◌≤◌, ◌<◌}
 use mathlib.Core.Path.{◌≡◌, refl, sym, ap, ◌∙◌}
 use mathlib.Core.Bool.{Bool, true, false, ◌&&◌, and-true}
 use mathlib.Core.List.{map, append-nil}
-use lib.ListN.{length}
 use native.Mathlib.Omega.{arith}
 use borrow.Author.Tests.{eq-eqb, ne_eqb, leb-false, leb-true}
 use lib.Dec.{leb, ltb, eqb}
-use Rattle.lists.specs.Lists.{range, all, chained, filter, count}
+use Rattle.lists.specs.Lists.{range, chained, filter, count}
 use Rattle.lists.specs.Runs.{from, Together}
 use Rattle.lists.proofs.Tests.{if, ltb_suc}
-use Rattle.lists.proofs.Members.{in_all}
-use Rattle.lists.proofs.Counts.{count_ext, count_map, filter_length}
-use Rattle.lists.proofs.Loops.{from_all, from_length}
+use Rattle.lists.proofs.Counts.{count_ext}
+use Rattle.lists.proofs.Loops.{from_all}
 use Rattle.lists.proofs.Places.{from_split, in_from}
-use Rattle.lists.proofs.Selections.{map-map, all_append, filter-append, filter_none, filter_all, filter_ext}
+use Rattle.lists.proofs.Selections.{filter-append, filter_none, filter_all, filter_ext}
 use Rattle.lists.proofs.Search.{less_below, more_above, below_within}
 
 -- numbers that never fall: those equal to k stand together, from the count of smaller ones up to the count of those not greater

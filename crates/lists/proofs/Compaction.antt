@@ -9,12 +9,11 @@ use native.Mathlib.Numerals.{add-one}
 use native.Mathlib.Nat.{add-zero, add_assoc, zero-add, eq_of_mul-eq-mul_left}
 use lib.ListN.{length, take, drop, replicate, length-map}
 use Rattle.lists.specs.Lists.{range, filter, sum}
-use Rattle.lists.specs.Runs.{from, overwrite, replace, Layout, at}
+use Rattle.lists.specs.Runs.{from, overwrite, replace, at}
 use Rattle.lists.specs.Pieces.{Pieces, piece, row_pieces, Compacted}
-use Rattle.lists.proofs.Members.{In, in_filter_of, in_range_lem, range_in}
+use Rattle.lists.proofs.Members.{In, in_filter_of, range_in}
 use Rattle.lists.proofs.Selections.{map-id, map_same, flat_map_ext, flat_map_map, filter_map_ext}
-use Rattle.lists.proofs.Runs.{overwrite_front, overwrite_past, replace_past, replace_less, record_fits}
-use Rattle.lists.proofs.Layouts.{Lawful, words_at_lem}
+use Rattle.lists.proofs.Runs.{overwrite_front, overwrite_past, replace_past, replace_less}
 use Rattle.lists.proofs.Loops.{from_all, filter_pass, filter_fail, filter_end}
 use Rattle.lists.proofs.Places.{in_from}
 use Rattle.lists.proofs.Pieces.{start_grows, pieces_length, sizes_sum}

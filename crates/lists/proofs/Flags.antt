@@ -12,8 +12,8 @@ use Rattle.lists.specs.Lists.{range, filter, sum, bit}
 use Rattle.lists.specs.Runs.{replace}
 use Rattle.lists.specs.Pieces.{Pieces, piece, row_pieces, Compacted, flagged, Flags}
 use Rattle.lists.proofs.Tests.{if}
-use Rattle.lists.proofs.Members.{In, in_range_lem}
-use Rattle.lists.proofs.Selections.{filter_ext, map-id}
+use Rattle.lists.proofs.Members.{in_range_lem}
+use Rattle.lists.proofs.Selections.{filter_ext}
 use Rattle.lists.proofs.Compaction.{rows_count}
 
 pub flags_start : (q : ℕ → Bool) (flags : List ℕ) → Flags q 0 flags

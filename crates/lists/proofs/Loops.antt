@@ -10,7 +10,7 @@ use lib.ListN.{length, take, set, replicate, length-map}
 use lib.Seq.{take_all}
 use Rattle.lists.specs.Lists.{range, all, pairwise, chained, filter, place}
 use Rattle.lists.specs.declared.Found.TheVariants.{At, Nothing}
-use Rattle.lists.specs.Runs.{from, overwrite, at}
+use Rattle.lists.specs.Runs.{from, overwrite}
 use Rattle.lists.proofs.Tests.{passed, failed}
 use Rattle.lists.proofs.Runs.{overwrite_none, overwrite_set, overwrite_front}
 

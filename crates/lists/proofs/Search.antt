@@ -1,24 +1,24 @@
 -- Words that ascend: how many are below a number, and where a number stands among them.
-use Prim.Native.Nat.{ℕ, ◌+◌, ◌-◌, ◌≤◌, ◌<◌}
+use Prim.Native.Nat.{ℕ, ◌+◌, ◌≤◌, ◌<◌}
 use mathlib.Core.Path.{◌≡◌, refl, sym, ap, ◌∙◌}
 use mathlib.Core.Logic.{⊎_elim}
 use mathlib.Core.List.{List, map}
-use mathlib.Core.Bool.{Bool, true, false, not, ◌&&◌}
+use mathlib.Core.Bool.{Bool, true, false, ◌&&◌}
 use native.Mathlib.Omega.{arith}
 use native.Mathlib.Nat.{eq-or-lt_of_le, zero-add}
-use borrow.Author.Tests.{lt-ltb, le-ltb, le-leb, ltb-true, ltb-false, leb-true, leb-false, eq-eqb, eqb-true, ne_eqb}
+use borrow.Author.Tests.{lt-ltb, le-ltb, le-leb, ltb-true, ltb-false, leb-true, leb-false, eqb-true}
 use lib.Dec.{leb, ltb, eqb}
 use lib.ListN.{length}
 use Rattle.lists.specs.declared.Found.{Found}
 use Rattle.lists.specs.declared.Found.TheVariants.{At}
-use Rattle.lists.specs.Lists.{range, any, pairwise, chained, before, count, place}
+use Rattle.lists.specs.Lists.{range, any, chained, before, count, place}
 use Rattle.lists.specs.Runs.{from, field, fields, pair_at, pairs}
-use Rattle.lists.proofs.Tests.{if, either, or_cases, both, and, same_test, reflects_ltb, reflects_eqb, reflects_not}
-use Rattle.lists.proofs.Members.{any_in, in_any, in_map, in_map_of, in_range_lem, range_in, pair_as, reflects_pairwise, In}
-use Rattle.lists.proofs.Orders.{chained_pairwise, chained_as, chained_maps, reflects_chained}
+use Rattle.lists.proofs.Tests.{if, either, or_cases, both, and, same_test}
+use Rattle.lists.proofs.Members.{any_in, in_any, in_map, in_map_of, in_range_lem, range_in, In}
+use Rattle.lists.proofs.Orders.{chained_pairwise, chained_as, chained_maps}
 use Rattle.lists.proofs.Loops.{from_length, from_end, from_all}
 use Rattle.lists.proofs.Counts.{count-append, count-zero, count_whole, count_most}
-use Rattle.lists.proofs.Places.{from_split, in_from, pairwise_at, place_first, place_nowhere, found_tells}
+use Rattle.lists.proofs.Places.{from_split, in_from, pairwise_at, found_tells}
 use Rattle.lists.proofs.Selections.{any_none}
 
 -- numbers in order by their neighbours are in order

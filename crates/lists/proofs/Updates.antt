@@ -10,7 +10,7 @@ use lib.Dec.{eqb}
 use lib.ListN.{length, get_or, take, drop, set, length-take, length-drop, length-set}
 use lib.Seq.{get_or-take, get_or-drop, take-set-le, drop-set-lt, take-set-lt, drop-set-add}
 use Rattle.lists.specs.Lists.{range}
-use Rattle.lists.specs.Runs.{field, overwrite, at, table, set_where, each_record}
+use Rattle.lists.specs.Runs.{field, overwrite, set_where, each_record}
 use Rattle.lists.proofs.Members.{in_range_lem}
 use Rattle.lists.proofs.Runs.{overwrite_none, overwrite_over, overwrite_past, overwrite_same, record_fits}
 use Rattle.lists.proofs.Selections.{flat_map_ext}

@@ -1,4 +1,5 @@
 // Lists, runs of words and records in runs: definitions in specs/, laws in proofs/. Nothing of DuckLake, and no function.
+#![tactic(auto)]
 
 // A place, or none.
 #[derive(Clone, Copy)]

@@ -6,7 +6,7 @@ use mathlib.Core.List.{List, [], ◌∷◌, map, append-nil}
 use native.Mathlib.Omega.{arith}
 use borrow.Author.Tests.{le-leb, lt-leb}
 use lib.Dec.{leb, ltb}
-use Rattle.lists.specs.Lists.{range, any, non_empty, chained, filter, count, highest}
+use Rattle.lists.specs.Lists.{any, non_empty, chained, filter, count, highest}
 use Rattle.lists.specs.Runs.{from, field, fields}
 use Rattle.lists.proofs.Tests.{ltb_suc}
 use Rattle.lists.proofs.Members.{In, here, next, in_map, in_map_of, in_any, range_in}

@@ -1,4 +1,6 @@
 // Lives, and records found by id. That tables are sorted, and by what, is known to this crate alone.
+#![tactic(auto)]
+
 pub mod block;
 pub mod deletion;
 pub mod find;

@@ -1,4 +1,6 @@
 // Names in their places, and as arguments.
+#![tactic(auto)]
+
 ghost use Rattle.std.specs.Prelude.{◌≡◌, ◌+◌, ◌*◌, ◌≤◌, ◌<◌, length, get_or};
 ghost use Rattle.lists.specs.Runs.{overwrite};
 ghost use Rattle.layout.specs.Names.{name_size, name_at, is_name_byte, is_name, is_name_argument, padded, same_name};

@@ -1,11 +1,10 @@
 -- So long are digits, a UUID and a path: each digit is one byte.
-use Prim.Native.Nat.{ℕ, zero, suc, ◌/◌, ◌%◌}
+use Prim.Native.Nat.{ℕ, zero, suc, ◌/◌}
 use mathlib.Core.Path.{◌≡◌, refl}
-use mathlib.Core.List.{[], ◌∷◌}
 use native.Mathlib.Omega.{arith}
 use lib.ListN.{length, length-append}
 use Rattle.layout.specs.declared.record.Uuid.{Uuid}
-use Rattle.ducklake.specs.Paths.{hex_digit, hex, uuid_text, path}
+use Rattle.ducklake.specs.Paths.{hex, uuid_text, path}
 use Rattle.paths.specs.Lengths.{uuid_length, path_length}
 
 pub hex_length : (n x : ℕ) → length (hex n x) ≡ n

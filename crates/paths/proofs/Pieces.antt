@@ -1,11 +1,10 @@
 -- Pieces of text that are written one after another are one piece: what is written over a run is written part by part (`overwrite_over`).
-use Prim.Native.Nat.{ℕ, zero, suc, ◌+◌, ◌/◌, ◌%◌, ◌≤◌, ◌<◌}
-use mathlib.Core.Path.{◌≡◌, refl, sym, ap, ◌∙◌}
-use mathlib.Core.List.{List, [], ◌∷◌, ◌++◌, append-nil}
+use Prim.Native.Nat.{ℕ, ◌+◌, ◌≤◌}
+use mathlib.Core.Path.{◌≡◌, sym, ap, ◌∙◌}
+use mathlib.Core.List.{List, [], ◌++◌}
 use native.Mathlib.Omega.{arith}
-use lib.ListN.{length, set, length-append}
-use Rattle.lists.specs.Runs.{overwrite}
-use Rattle.lists.proofs.Runs.{overwrite_none, overwrite_set, overwrite_length, overwrite_over}
+use lib.ListN.{length, length-append}
+use Rattle.lists.proofs.Runs.{overwrite_none, overwrite_length, overwrite_over}
 use Rattle.paths.specs.Text.{Written}
 
 -- a piece leaves the text as long as it was

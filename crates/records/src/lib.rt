@@ -1,4 +1,6 @@
 // The records of every table, read and written, a file each. Nothing else knows at which word a field lies.
+#![tactic(auto)]
+
 pub mod column;
 pub mod data_file;
 pub mod delete_file;

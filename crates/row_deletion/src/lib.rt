@@ -1,4 +1,6 @@
 // Rows deleted: the positions of a delete, what it is refused for, what it adds, and what it writes.
+#![tactic(auto)]
+
 pub mod append;
 pub mod delete;
 pub mod deleted;

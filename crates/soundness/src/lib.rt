@@ -1,4 +1,6 @@
 // Which line of 'Sound tables' the lent tables break.
+#![tactic(auto)]
+
 pub mod check;
 pub mod checked;
 mod each_record;

@@ -9,7 +9,7 @@ use lib.Dec.{leb, ltb, eqb}
 use lib.ListN.{length, get_or}
 use borrow.Author.Tests.{ltb-true, lt-ltb, le-ltb, eqb-true, le-leb, leb-true, leb-false, not-true}
 use Rattle.lists.specs.Lists.{pairwise, chained, all}
-use Rattle.lists.specs.Runs.{from, field}
+use Rattle.lists.specs.Runs.{field}
 use Rattle.lists.proofs.Tests.{Reflects, if, either, both, and, clash, or_left, or_right, or_cases, reflects_it, reflects_implies}
 use Rattle.lists.proofs.Loops.{from_step, from_end, from_length}
 use Rattle.lists.proofs.Places.{from_split}

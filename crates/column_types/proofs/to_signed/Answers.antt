@@ -1,5 +1,4 @@
 -- `to_signed` meets its contract: a word of the upper half is its distance from the lowest of them, moved down by half the range.
-use borrow.Author.Rules.{rules}
 use mir.Facts.{sfits_to_z, to_z-of_z}
 use Rattle.layout.proofs.Types.{upper_half}
 use Rattle.column_types.proofs.to_signed.Goals as goal

@@ -1,5 +1,4 @@
 -- `type_of` meets its contract: each arm leads to the type of its code.
-use borrow.Author.Rules.{rules}
 use mathlib.Core.Path.{refl}
 use Rattle.lists.specs.Lists.{any}
 use Rattle.layout.specs.Types.{types, is_type, in_type}

@@ -1,5 +1,4 @@
 -- `write_delete_path` meets its contract: nothing where the id is ABSENT, and else the file's path.
-use borrow.Author.Rules.{rules}
 use Rattle.diary_listing.proofs.Lines.{nothing_written, delete_path_room, delete_path_written}
 use Rattle.diary_listing.proofs.write_delete_path.Goals as goal
 

@@ -1,5 +1,4 @@
 -- `write_file_path` meets its contract: the UUID is that of the record which the lookup leaves in the area.
-use borrow.Author.Rules.{rules}
 use Rattle.diary_listing.proofs.Lines.{path_written}
 use Rattle.diary_listing.proofs.write_file_path.Goals as goal
 

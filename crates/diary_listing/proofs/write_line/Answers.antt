@@ -1,5 +1,4 @@
 -- `write_line` meets its contract: each part is written behind the one before, and there is room for it.
-use borrow.Author.Rules.{rules}
 use native.Mathlib.Omega.{arith}
 use Rattle.diary_listing.proofs.Lines.{line_room, comma_room, delete_room, line_feed_room, line_written}
 use Rattle.diary_listing.proofs.write_line.Goals as goal

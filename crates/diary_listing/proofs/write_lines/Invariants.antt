@@ -1,12 +1,10 @@
 -- `write_lines` meets its contract: a turn writes the line of two words, and the lines of the words from k on are still to be written.
-use borrow.Author.Rules.{rules}
 use Prim.Native.Nat.{◌-◌, ◌≤◌}
-use mathlib.Core.Path.{◌≡◌, refl, ◌∙◌}
-use native.Mathlib.Omega.{arith}
+use mathlib.Core.Path.{◌≡◌}
 use lib.ListN.{length, drop}
 use Rattle.file_lookup.specs.Runs.{FilesLent}
 use Rattle.diary_session.specs.Listing.{lines}
-use Rattle.diary_listing.proofs.Lines.{StillToWrite, piece_next, pieces_done, lines_end, lines_next, line_fits}
+use Rattle.diary_listing.proofs.Lines.{StillToWrite}
 use Rattle.diary_listing.proofs.write_lines.Given as goal
 
 abbrev pub invariant-loop-k : goal.invariant-loop-k

@@ -1,5 +1,4 @@
 -- `write_listing` meets its contract: the reading leaves its answer in the area, the header is written first and the lines of the answer behind it.
-use borrow.Author.Rules.{rules}
 use mathlib.Core.Path.{sym}
 use lib.Seq.{length-take-le}
 use Rattle.call_laws.proofs.Areas.{reading_area, outcome_fits}

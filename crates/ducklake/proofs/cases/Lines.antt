@@ -41,7 +41,7 @@
 --   expire: time, snapshots ..                     path_of_file: UUID high and low; the answer is its bytes
 --   cleanup: t
 use Prim.Native.Nat.{ℕ, zero, suc, ◌+◌, ◌*◌, ◌-◌, ◌/◌, ◌%◌, ◌^◌}
-use mathlib.Core.Bool.{Bool, true, not, cond, ◌&&◌, ◌||◌}
+use mathlib.Core.Bool.{Bool, not, cond, ◌&&◌, ◌||◌}
 use mathlib.Core.List.{List, [], ◌∷◌, ◌++◌}
 use lib.Dec.{ltb, eqb}
 use lib.IntN.{ℤ, pos, negsuc}

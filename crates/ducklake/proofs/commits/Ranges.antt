@@ -9,7 +9,7 @@ use lib.ListN.{length}
 use borrow.Author.Tests.{le-leb}
 use Rattle.lists.specs.Lists.{count}
 use Rattle.lists.proofs.Tests.{either, both, and}
-use Rattle.lists.proofs.Members.{In, here, next, All, each, Pairwise, in_any, in_right, all_append, all_one, pair_append, pair_one, all_step, pair_step}
+use Rattle.lists.proofs.Members.{In, here, All, each, Pairwise, in_any, in_right, all_append, all_one, pair_append, pair_one, all_step, pair_step}
 use Rattle.lists.proofs.Selections.{pair_last}
 use Rattle.lists.proofs.Counts.{count-append, count_map}
 use Rattle.layout.specs.Catalog.{number_limit, Versioned, Snapshot, Schema, Table, Column, DataFile, DeleteFile, Catalog}

@@ -15,7 +15,6 @@ use Rattle.lists.proofs.Members.{In, All, each, in_any, all_append, all_map}
 use Rattle.layout.specs.Catalog.{absent, Versioned, Table, DataFile, DeleteFile, Catalog}
 use Rattle.ducklake.specs.Liveness.{live, retained, latest, latest_id, data_files_at, delete_files_at, deleted_at, is_live}
 use Rattle.ducklake.specs.Commits.{Change, close, grow, next_snapshot, commit}
-use Rattle.ducklake.specs.Refusals.{first}
 use Rattle.ducklake.specs.Readings.{rows, file_rows, query_answer}
 use Rattle.ducklake.specs.Journal.{TableRows, no_table_rows, Journal, updated, last_page, turned}
 use Rattle.ducklake.proofs.facts.Facts.{Sound}

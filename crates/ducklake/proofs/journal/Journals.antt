@@ -14,7 +14,7 @@ use Rattle.layout.specs.declared.outcome.Terms.{Terms}
 use Rattle.layout.specs.declared.record.Uuid.{Uuid}
 use Rattle.layout.specs.Catalog.{Versioned, Snapshot, DataFile, Catalog}
 use Rattle.ducklake.specs.Liveness.{live_at_some, retained, latest, data_files_at, deleted_at, latest_id, is_live, table_of_id, data_file_of_id}
-use Rattle.ducklake.specs.Refusals.{not_live, bad_positions, first}
+use Rattle.ducklake.specs.Refusals.{not_live, bad_positions}
 use Rattle.ducklake.specs.Arguments.{positions_fit}
 use Rattle.ducklake.specs.Commits.{Change, Commit, create_schema, create_table, insert, delete, drop_table, drop_schema, next_snapshot, change_of, commit, numbers_fit}
 use Rattle.ducklake.specs.Readings.{rows, file_rows, query_answer}

@@ -1,5 +1,4 @@
 -- `four_bytes` meets its contract: each byte counts in its own power, and is less than a byte's numbers.
-use borrow.Author.Rules.{rules}
 use native.Mathlib.Omega.{arith}
 use Rattle.names.proofs.NameWords.{half_sum}
 use Rattle.names.proofs.four_bytes.Goals as goal

@@ -1,13 +1,9 @@
 -- `holds_name` meets its contract: the place and the padded name are compared byte by byte.
-use borrow.Author.Rules.{rules}
-use Prim.Native.Nat.{◌-◌}
-use mathlib.Core.Path.{◌≡◌, refl, sym, ◌∙◌}
+use mathlib.Core.Path.{refl, sym, ◌∙◌}
 use borrow.Author.Tests.{eq-eqb, ne_eqb}
 use lib.Dec.{eqb}
-use lib.ListN.{drop}
-use Rattle.lists.specs.Lists.{agree}
 use Rattle.lists.proofs.Windows.{agree_first_pass, agree_first_fail, agree_none}
-use Rattle.layout.specs.Names.{name_at, padded, same_name}
+use Rattle.layout.specs.Names.{same_name}
 use Rattle.layout.proofs.Names.{place_step, place_end, padded_step, padded_end}
 use Rattle.names.proofs.holds_name.Goals as goal
 

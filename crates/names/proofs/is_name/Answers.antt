@@ -1,12 +1,7 @@
 -- `is_name` meets its contract: each byte is judged by itself and by the one before it.
-use borrow.Author.Rules.{rules}
-use Prim.Native.Nat.{◌-◌}
-use mathlib.Core.Path.{◌≡◌, sym, ◌∙◌}
-use mathlib.Core.Bool.{◌&&◌}
-use lib.ListN.{drop}
-use Rattle.layout.specs.Names.{name_at, is_name}
+use mathlib.Core.Path.{sym, ◌∙◌}
 use Rattle.layout.proofs.Names.{place_step, place_end}
-use Rattle.names.proofs.NameBytes.{rest_named, rest_start, rest_next, rest_end}
+use Rattle.names.proofs.NameBytes.{rest_start, rest_next, rest_end}
 use Rattle.names.proofs.is_name.Goals as goal
 
 pub loop-k-init : goal.loop-k-init

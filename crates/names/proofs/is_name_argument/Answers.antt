@@ -1,10 +1,7 @@
 -- `is_name_argument` meets its contract: the length is tested, then each byte.
-use borrow.Author.Rules.{rules}
-use Prim.Native.Nat.{◌-◌}
-use mathlib.Core.Path.{◌≡◌, sym, ◌∙◌}
+use mathlib.Core.Path.{sym, ◌∙◌}
 use borrow.Author.Tests.{le-leb, lt-leb, not-true, not-false}
-use lib.ListN.{length, drop, drop_of_length-le}
-use Rattle.lists.specs.Lists.{all}
+use lib.ListN.{drop_of_length-le}
 use Rattle.lists.proofs.Windows.{rest_step, all_first_pass, all_first_fail, all_none}
 use Rattle.layout.specs.Names.{is_name_byte, is_name_argument}
 use Rattle.names.proofs.is_name_argument.Goals as goal

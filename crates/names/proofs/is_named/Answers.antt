@@ -1,5 +1,4 @@
 -- `is_named` meets its contract: a name that is too long is the name of no place.
-use borrow.Author.Rules.{rules}
 use mathlib.Core.Path.{sym}
 use Rattle.layout.proofs.Names.{too_long}
 use Rattle.names.proofs.is_named.Goals as goal

@@ -1,5 +1,4 @@
 -- `name_word` meets its contract: the first half of a word counts in the numbers of the second.
-use borrow.Author.Rules.{rules}
 use native.Mathlib.Omega.{arith}
 use Rattle.names.proofs.NameWords.{word_sum}
 use Rattle.names.proofs.name_word.Goals as goal

@@ -1,5 +1,4 @@
 -- `padded_byte` meets its contract: past its end a name is as if zero bytes followed.
-use borrow.Author.Rules.{rules}
 use mathlib.Core.Path.{sym}
 use lib.ListN.{get_or-eq_default}
 use Rattle.names.proofs.padded_byte.Goals as goal

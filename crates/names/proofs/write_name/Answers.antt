@@ -1,14 +1,12 @@
 -- `write_name` meets its contract: each byte of the padded name is written in turn.
-use borrow.Author.Rules.{rules}
-use Prim.Native.Nat.{◌+◌, ◌*◌, ◌-◌}
-use mathlib.Core.Path.{◌≡◌, refl, sym, ◌∙◌}
+use Prim.Native.Nat.{◌+◌, ◌*◌}
+use mathlib.Core.Path.{refl, sym, ◌∙◌}
 use native.Mathlib.Nat.{add-zero}
 use native.Mathlib.Omega.{arith}
-use lib.ListN.{length, drop, length-set}
-use Rattle.lists.specs.Runs.{overwrite}
+use lib.ListN.{length-set}
 use Rattle.lists.proofs.Runs.{overwrite_none}
 use Rattle.lists.proofs.Windows.{overwrite_next}
-use Rattle.layout.specs.Names.{name_size, padded}
+use Rattle.layout.specs.Names.{name_size}
 use Rattle.layout.proofs.Names.{padded_step, padded_end}
 use Rattle.names.proofs.write_name.Goals as goal
 

@@ -1,15 +1,9 @@
 -- `write_name` meets its contract: each byte of the padded name is written in turn.
-use borrow.Author.Rules.{rules}
 use Prim.Native.Nat.{◌+◌, ◌*◌, ◌-◌}
-use mathlib.Core.Path.{◌≡◌, refl, sym, ◌∙◌}
-use native.Mathlib.Nat.{add-zero}
-use native.Mathlib.Omega.{arith}
-use lib.ListN.{length, drop, length-set}
+use mathlib.Core.Path.{◌≡◌}
+use lib.ListN.{length, drop}
 use Rattle.lists.specs.Runs.{overwrite}
-use Rattle.lists.proofs.Runs.{overwrite_none}
-use Rattle.lists.proofs.Windows.{overwrite_next}
 use Rattle.layout.specs.Names.{name_size, padded}
-use Rattle.layout.proofs.Names.{padded_step, padded_end}
 use Rattle.names.proofs.write_name.Given as goal
 
 -- the bytes from k on are still to be written

@@ -1,5 +1,4 @@
 -- `bytes_of` meets its contract: the part from the span's start to its end.
-use borrow.Author.Rules.{rules}
 use Rattle.call_lists.proofs.Parts.{part_is}
 use Rattle.call_lists.proofs.part.bytes_of.Goals as goal
 

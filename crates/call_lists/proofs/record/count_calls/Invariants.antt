@@ -1,10 +1,6 @@
 -- The loop looks for the first record that asks for nothing.
-use borrow.Author.Rules.{rules}
 use Prim.Native.Nat.{◌≤◌, ◌-◌}
-use mathlib.Core.Path.{ap, ◌∙◌}
-use native.Mathlib.Omega.{arith}
-use Rattle.call_lists.specs.Calls.{is_asked}
-use Rattle.call_lists.proofs.Leading.{Looking, looking_start, looking_next, looking_hit, looking_end}
+use Rattle.call_lists.proofs.Leading.{Looking}
 use Rattle.call_lists.proofs.record.count_calls.Given as goal
 
 abbrev pub invariant-loop-i : goal.invariant-loop-i

@@ -1,5 +1,4 @@
 -- `is_asked` meets its contract: each of its tests is a part of the definition.
-use borrow.Author.Rules.{rules}
 use mathlib.Core.Path.{refl}
 use Rattle.call_lists.specs.Calls.{spans_fit, is_asked}
 use Rattle.call_lists.proofs.record.is_asked.Goals as goal

@@ -1,5 +1,4 @@
 -- `catalog_create_schema` keeps its promise: the tables are checked, and the rest is the operation's.
-use borrow.Author.Rules.{rules}
 use mathlib.Core.Path.{refl}
 use Rattle.schema_creation.proofs.Lent.{create_schema_lent}
 use Rattle.catalog_creates.proofs.create_schema.catalog_create_schema.Goals as goal

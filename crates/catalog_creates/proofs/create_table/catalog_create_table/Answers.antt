@@ -1,5 +1,4 @@
 -- `catalog_create_table` keeps its promise: the tables are checked, and the rest is the operation's.
-use borrow.Author.Rules.{rules}
 use mathlib.Core.Path.{refl}
 use Rattle.table_creation.proofs.Lent.{create_table_lent}
 use Rattle.catalog_creates.proofs.create_table.catalog_create_table.Goals as goal

@@ -1,5 +1,4 @@
 -- `catalog_drop_schema` keeps its promise: the tables are checked, and the rest is the operation's.
-use borrow.Author.Rules.{rules}
 use mathlib.Core.Path.{refl}
 use Rattle.drops.proofs.Lent.{drop_schema_lent}
 use Rattle.catalog_drops.proofs.drop_schema.catalog_drop_schema.Goals as goal

@@ -1,5 +1,4 @@
 -- `catalog_drop_table` keeps its promise: the tables are checked, and the rest is the operation's.
-use borrow.Author.Rules.{rules}
 use mathlib.Core.Path.{refl}
 use Rattle.drops.proofs.Lent.{drop_table_lent}
 use Rattle.catalog_drops.proofs.drop_table.catalog_drop_table.Goals as goal

@@ -1,5 +1,4 @@
 -- `catalog_fresh` keeps its promise: the room is that of all tables, and the rest is the start's.
-use borrow.Author.Rules.{rules}
 use mathlib.Core.Path.{refl}
 use Rattle.catalog_fresh.proofs.Lent.{fresh_lent}
 use Rattle.catalog_fresh.proofs.fresh.catalog_fresh.Goals as goal

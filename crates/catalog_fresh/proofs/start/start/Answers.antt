@@ -1,5 +1,4 @@
 -- `start` keeps the promise: without room it leaves all as it was, else its writes are the fresh catalogue.
-use borrow.Author.Rules.{rules}
 use Rattle.catalog_fresh.proofs.Lent.{fresh_relies, fresh_refused, fresh_done}
 use Rattle.catalog_fresh.proofs.start.start.Goals as goal
 

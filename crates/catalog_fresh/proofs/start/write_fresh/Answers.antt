@@ -1,5 +1,4 @@
 -- `write_fresh` meets its contract: the two records and the name are those of the fresh catalogue.
-use borrow.Author.Rules.{rules}
 use Rattle.catalog_fresh.proofs.Lent.{fresh_stored}
 use Rattle.catalog_fresh.proofs.start.write_fresh.Goals as goal
 

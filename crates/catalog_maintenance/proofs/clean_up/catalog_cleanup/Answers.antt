@@ -1,5 +1,4 @@
 -- `catalog_cleanup` keeps its promise: the tables are checked, and the rest is the cleanup's.
-use borrow.Author.Rules.{rules}
 use mathlib.Core.Path.{refl}
 use Rattle.cleanup.proofs.Lent.{cleanup_lent}
 use Rattle.catalog_maintenance.proofs.clean_up.catalog_cleanup.Goals as goal

@@ -1,5 +1,4 @@
 -- `catalog_expire` keeps its promise: the tables are checked, and the rest is the expiry's.
-use borrow.Author.Rules.{rules}
 use Rattle.catalog_maintenance.proofs.expire.catalog_expire.Goals as goal
 
 pub expire_snapshots-requires : goal.expire_snapshots-requires

@@ -1,5 +1,4 @@
 -- `catalog_list_columns` keeps its promise: the tables are checked, and the rest is the reading's.
-use borrow.Author.Rules.{rules}
 use Rattle.listings.proofs.Lent.{columns_lent_lem}
 use Rattle.catalog_readings.proofs.columns.catalog_list_columns.Goals as goal
 

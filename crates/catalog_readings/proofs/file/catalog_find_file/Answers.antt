@@ -1,5 +1,4 @@
 -- `catalog_find_file` keeps its promise: the tables are checked, and the rest is the reading's.
-use borrow.Author.Rules.{rules}
 use Rattle.file_lookup.proofs.Places.{files_lent}
 use Rattle.catalog_readings.proofs.file.catalog_find_file.Goals as goal
 

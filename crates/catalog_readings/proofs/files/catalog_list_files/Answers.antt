@@ -1,5 +1,4 @@
 -- `catalog_list_files` keeps its promise: the tables are checked, and the rest is the reading's.
-use borrow.Author.Rules.{rules}
 use Rattle.scans.proofs.Lent.{files_lent}
 use Rattle.catalog_readings.proofs.files.catalog_list_files.Goals as goal
 

@@ -1,5 +1,4 @@
 -- `catalog_list_filtered_files` keeps its promise: the tables are checked, and the rest is the reading's.
-use borrow.Author.Rules.{rules}
 use mir.Facts.{to_z-of_z}
 use Rattle.scans.proofs.Lent.{filtered_lent}
 use Rattle.catalog_readings.proofs.filtered.catalog_list_filtered_files.Goals as goal

@@ -1,5 +1,4 @@
 -- `catalog_table_by_name` keeps its promise: the tables are checked, and the rest is the reading's.
-use borrow.Author.Rules.{rules}
 use Rattle.listings.proofs.Lent.{named_lent}
 use Rattle.catalog_readings.proofs.named.catalog_table_by_name.Goals as goal
 

@@ -1,5 +1,4 @@
 -- `catalog_list_rows` keeps its promise: the tables are checked, and the rest is the reading's.
-use borrow.Author.Rules.{rules}
 use Rattle.row_lists.proofs.Lent.{rows_lent}
 use Rattle.catalog_readings.proofs.rows.catalog_list_rows.Goals as goal
 

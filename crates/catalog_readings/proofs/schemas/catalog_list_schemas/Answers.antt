@@ -1,5 +1,4 @@
 -- `catalog_list_schemas` keeps its promise: the tables are checked, and the rest is the reading's.
-use borrow.Author.Rules.{rules}
 use Rattle.listings.proofs.Lent.{schemas_lent_lem}
 use Rattle.catalog_readings.proofs.schemas.catalog_list_schemas.Goals as goal
 

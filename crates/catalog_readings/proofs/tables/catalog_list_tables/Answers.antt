@@ -1,5 +1,4 @@
 -- `catalog_list_tables` keeps its promise: the tables are checked, and the rest is the reading's.
-use borrow.Author.Rules.{rules}
 use Rattle.listings.proofs.Lent.{tables_lent_lem}
 use Rattle.catalog_readings.proofs.tables.catalog_list_tables.Goals as goal
 

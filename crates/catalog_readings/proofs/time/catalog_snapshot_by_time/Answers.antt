@@ -1,5 +1,4 @@
 -- `catalog_snapshot_by_time` keeps its promise: the tables are checked, and the rest is the reading's.
-use borrow.Author.Rules.{rules}
 use Rattle.listings.proofs.Lent.{snapshots_lent_lem}
 use Rattle.catalog_readings.proofs.time.catalog_snapshot_by_time.Goals as goal
 

@@ -1,5 +1,4 @@
 -- `catalog_delete` keeps its promise: the tables are checked, and the rest is the delete's.
-use borrow.Author.Rules.{rules}
 use mathlib.Core.Path.{refl}
 use Rattle.row_deletion.proofs.Lent.{delete_lent}
 use Rattle.catalog_row_changes.proofs.delete.catalog_delete.Goals as goal

@@ -1,5 +1,4 @@
 -- `catalog_insert` keeps its promise: the tables are checked, and the rest is the insert's.
-use borrow.Author.Rules.{rules}
 use mathlib.Core.Path.{refl}
 use Rattle.row_insertion.proofs.Lent.{insert_lent}
 use Rattle.catalog_row_changes.proofs.insert.catalog_insert.Goals as goal

@@ -1,14 +1,11 @@
 -- `all_covered` meets its contract: the loop tests the data file of each delete file.
-use borrow.Author.Rules.{rules}
 use Prim.Native.Nat.{ℕ, ◌-◌, ◌≤◌}
-use mathlib.Core.Path.{◌≡◌, sym, ap, ◌∙◌}
+use mathlib.Core.Path.{◌≡◌}
 use mathlib.Core.Bool.{Bool, not, ◌||◌}
 use mathlib.Core.List.{List}
-use native.Mathlib.Omega.{arith}
 use Rattle.lists.specs.Lists.{all}
 use Rattle.lists.specs.Runs.{from}
 use Rattle.lists.specs.Pieces.{Flags}
-use Rattle.lists.proofs.Loops.{all_start, all_passed, all_failed, all_end}
 use Rattle.layout.specs.Catalog.{Versioned, DeleteFile}
 use Rattle.layout.specs.Words.{data_files_in, delete_file_at, delete_files_in, data_file_at}
 use Rattle.chaining.specs.Chained.{is_open}

@@ -1,5 +1,4 @@
 -- `is_chained` meets its contract: no flag is set before the loop that sets those of the data files that have an open delete file.
-use borrow.Author.Rules.{rules}
 use Prim.Native.Nat.{ℕ}
 use mathlib.Core.Path.{sym, ◌∙◌}
 use mathlib.Core.Bool.{Bool}

@@ -1,5 +1,4 @@
 -- `mark_data_file` meets its contract: ids ascend, so no other data file has the id that was found.
-use borrow.Author.Rules.{rules}
 use native.Mathlib.Omega.{arith}
 use Rattle.chaining.proofs.Marks.{found_id, mark_found, mark_nowhere}
 use Rattle.chaining.proofs.chained.mark_data_file.Goals as goal

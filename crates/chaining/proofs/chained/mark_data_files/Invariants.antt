@@ -1,19 +1,13 @@
 -- `mark_data_files` meets its contract: each turn sets the flag of its delete file's data file, if the delete file is open.
-use borrow.Author.Rules.{rules}
 use Prim.Native.Nat.{ℕ, ◌-◌, ◌≤◌, ◌<◌}
-use mathlib.Core.Path.{◌≡◌, sym, ap, ◌∙◌}
+use mathlib.Core.Path.{◌≡◌}
 use mathlib.Core.Bool.{◌||◌}
 use mathlib.Core.List.{List}
-use native.Mathlib.Omega.{arith}
 use lib.ListN.{length}
-use borrow.Author.Tests.{eq-eqb, ne_eqb}
 use Rattle.lists.specs.Runs.{from}
 use Rattle.lists.specs.Pieces.{flagged}
-use Rattle.lists.proofs.Loops.{from_all}
-use Rattle.layout.specs.Catalog.{absent}
 use Rattle.layout.specs.Words.{data_file_at, delete_file_at, delete_files_in}
 use Rattle.chaining.specs.Chained.{has_open_deletes}
-use Rattle.chaining.proofs.Marks.{or-false, marks_open, marks_ended, marks_end}
 use Rattle.chaining.proofs.chained.mark_data_files.Given as goal
 
 abbrev pub invariant-loop-i : goal.invariant-loop-i

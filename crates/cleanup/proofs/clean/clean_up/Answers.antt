@@ -1,5 +1,4 @@
 -- `clean_up` keeps the promise: refused it leaves all as it was, accepted it hands out and removes what is due.
-use borrow.Author.Rules.{rules}
 use Rattle.cleanup.proofs.Lent.{scheduled_lent_lem, due_lent, cleanup_refused, cleanup_done}
 use Rattle.cleanup.proofs.clean.clean_up.Goals as goal
 

@@ -1,14 +1,8 @@
 -- `count_due` meets its contract: each turn counts the record at its place, as the definition does.
-use borrow.Author.Rules.{rules}
-use Prim.Native.Nat.{◌≤◌, ◌-◌}
-use mathlib.Core.Path.{◌≡◌, sym, ap, ◌∙◌}
+use mathlib.Core.Path.{sym, ap, ◌∙◌}
 use native.Mathlib.Omega.{arith}
 use lib.Dec.{ltb}
-use lib.ListN.{length}
-use Rattle.lists.proofs.Loops.{counted, counted_start, counted_pass, counted_fail, counted_end}
-use Rattle.layout.specs.Words.{scheduled_at}
-use Rattle.ducklake.specs.Maintenance.{due}
-use Rattle.cleanup.specs.Handed.{due_in}
+use Rattle.lists.proofs.Loops.{counted_start, counted_pass, counted_fail, counted_end}
 use Rattle.cleanup.proofs.due.count_due.Goals as goal
 
 pub loop-i-init : goal.loop-i-init

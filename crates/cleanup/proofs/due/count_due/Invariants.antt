@@ -1,11 +1,8 @@
 -- `count_due` meets its contract: each turn counts the record at its place, as the definition does.
-use borrow.Author.Rules.{rules}
 use Prim.Native.Nat.{◌≤◌, ◌-◌}
-use mathlib.Core.Path.{◌≡◌, sym, ap, ◌∙◌}
-use native.Mathlib.Omega.{arith}
-use lib.Dec.{ltb}
+use mathlib.Core.Path.{◌≡◌}
 use lib.ListN.{length}
-use Rattle.lists.proofs.Loops.{counted, counted_start, counted_pass, counted_fail, counted_end}
+use Rattle.lists.proofs.Loops.{counted}
 use Rattle.layout.specs.Words.{scheduled_at}
 use Rattle.ducklake.specs.Maintenance.{due}
 use Rattle.cleanup.specs.Handed.{due_in}

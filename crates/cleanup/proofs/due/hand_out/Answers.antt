@@ -1,12 +1,8 @@
 -- `hand_out` meets its contract: each turn lays the words of the record at its place, if it is due, behind those laid before.
-use borrow.Author.Rules.{rules}
-use Prim.Native.Nat.{◌≤◌, ◌-◌}
-use mathlib.Core.Path.{◌≡◌, refl, sym, ap, ◌∙◌}
+use mathlib.Core.Path.{refl, sym, ap, ◌∙◌}
 use native.Mathlib.Omega.{arith}
-use lib.ListN.{length}
-use Rattle.lists.proofs.Writes.{laid, laid_room, laid_pass, laid_fail, laid_done}
+use Rattle.lists.proofs.Writes.{laid_room, laid_pass, laid_fail, laid_done}
 use Rattle.layout.specs.Catalog.{scheduled_of}
-use Rattle.layout.specs.Words.{scheduled_at}
 use Rattle.ducklake.specs.Maintenance.{due, handed_words}
 use Rattle.cleanup.proofs.due.hand_out.Goals as goal
 

@@ -1,5 +1,4 @@
 -- `remove_due` meets its contract: the flags are those of the records that are not due.
-use borrow.Author.Rules.{rules}
 use Rattle.lists.proofs.Flags.{compacted_as}
 use Rattle.cleanup.proofs.due.remove_due.Goals as goal
 

@@ -1,5 +1,4 @@
 -- `write_handed` meets its contract: the three words are written one after another.
-use borrow.Author.Rules.{rules}
 use native.Mathlib.Numerals.{towards_suc}
 use native.Mathlib.Omega.{arith}
 use lib.ListN.{length-set}

@@ -1,5 +1,4 @@
 -- `append_snapshot` meets its contract: what is written is the snapshot after the latest.
-use borrow.Author.Rules.{rules}
 use Prim.Native.Nat.{ℕ, ◌*◌}
 use mathlib.Core.Path.{◌≡◌, ap, ◌∙◌}
 use mathlib.Core.List.{List}

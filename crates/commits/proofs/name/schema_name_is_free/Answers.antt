@@ -1,20 +1,10 @@
 -- `schema_name_is_free` meets its contract: the loop goes on while no schema takes the name.
-use borrow.Author.Rules.{rules}
-use Prim.Native.Nat.{ℕ, ◌-◌, ◌≤◌}
-use mathlib.Core.Path.{◌≡◌, sym, ap, ◌∙◌}
-use mathlib.Core.Bool.{Bool, not, ◌&&◌}
-use mathlib.Core.List.{List}
+use mathlib.Core.Path.{sym, ap, ◌∙◌}
+use mathlib.Core.Bool.{not}
 use native.Mathlib.Omega.{arith}
-use Rattle.lists.specs.Lists.{all, any}
-use Rattle.lists.specs.Runs.{from}
 use Rattle.lists.proofs.Loops.{all_start, all_pass, all_fail, all_end}
-use Rattle.layout.specs.Catalog.{Versioned, Schema}
-use Rattle.layout.specs.Names.{padded}
-use Rattle.layout.specs.Words.{schema_at, schemas_in}
-use Rattle.ducklake.specs.Arguments.{clashes}
-use Rattle.ducklake.specs.Liveness.{live, schemas_at}
+use Rattle.ducklake.specs.Liveness.{schemas_at}
 use Rattle.commits.proofs.Lives.{none_live}
-use Rattle.commits.proofs.name.schema_name_is_free.Invariants.{leaves}
 use Rattle.commits.proofs.name.schema_name_is_free.Goals as goal
 
 pub loop-i-init : goal.loop-i-init

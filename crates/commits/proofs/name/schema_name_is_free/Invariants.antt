@@ -1,19 +1,15 @@
 -- `schema_name_is_free` meets its contract: the loop goes on while no schema takes the name.
-use borrow.Author.Rules.{rules}
 use Prim.Native.Nat.{ℕ, ◌-◌, ◌≤◌}
-use mathlib.Core.Path.{◌≡◌, sym, ap, ◌∙◌}
+use mathlib.Core.Path.{◌≡◌}
 use mathlib.Core.Bool.{Bool, not, ◌&&◌}
 use mathlib.Core.List.{List}
-use native.Mathlib.Omega.{arith}
 use Rattle.lists.specs.Lists.{all, any}
 use Rattle.lists.specs.Runs.{from}
-use Rattle.lists.proofs.Loops.{all_start, all_pass, all_fail, all_end}
 use Rattle.layout.specs.Catalog.{Versioned, Schema}
 use Rattle.layout.specs.Names.{padded}
 use Rattle.layout.specs.Words.{schema_at, schemas_in}
 use Rattle.ducklake.specs.Arguments.{clashes}
 use Rattle.ducklake.specs.Liveness.{live, schemas_at}
-use Rattle.commits.proofs.Lives.{none_live}
 use Rattle.commits.proofs.name.schema_name_is_free.Given as goal
 
 abbrev pub leaves : ℕ → List ℕ → Versioned Schema → Bool

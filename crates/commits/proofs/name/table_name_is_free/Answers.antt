@@ -1,21 +1,10 @@
 -- `table_name_is_free` meets its contract: the loop goes on while no table of the schema takes the name.
-use borrow.Author.Rules.{rules}
-use Prim.Native.Nat.{ℕ, ◌-◌, ◌≤◌}
-use mathlib.Core.Path.{◌≡◌, sym, ap, ◌∙◌}
-use mathlib.Core.Bool.{Bool, not, ◌&&◌}
-use mathlib.Core.List.{List}
+use mathlib.Core.Path.{sym, ap, ◌∙◌}
+use mathlib.Core.Bool.{not}
 use native.Mathlib.Omega.{arith}
-use lib.Dec.{eqb}
-use Rattle.lists.specs.Lists.{all, any}
-use Rattle.lists.specs.Runs.{from}
 use Rattle.lists.proofs.Loops.{all_start, all_pass, all_fail, all_end}
-use Rattle.layout.specs.Catalog.{Versioned, Table}
-use Rattle.layout.specs.Names.{padded}
-use Rattle.layout.specs.Words.{table_at, tables_in}
-use Rattle.ducklake.specs.Arguments.{clashes}
-use Rattle.ducklake.specs.Liveness.{live, tables_at}
+use Rattle.ducklake.specs.Liveness.{tables_at}
 use Rattle.commits.proofs.Lives.{none_live}
-use Rattle.commits.proofs.name.table_name_is_free.Invariants.{leaves}
 use Rattle.commits.proofs.name.table_name_is_free.Goals as goal
 
 pub loop-i-init : goal.loop-i-init

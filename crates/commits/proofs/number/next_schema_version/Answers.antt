@@ -1,8 +1,6 @@
 -- `next_schema_version` meets its contract: the two ways out are the two values of the bit.
-use borrow.Author.Rules.{rules}
 use native.Mathlib.Nat.{add-zero}
 use mathlib.Core.Path.{refl, sym}
-use Rattle.lists.specs.Lists.{bit}
 use Rattle.commits.proofs.number.next_schema_version.Goals as goal
 
 pub returns-then-raises : goal.returns-then-raises

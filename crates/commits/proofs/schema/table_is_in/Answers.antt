@@ -1,5 +1,4 @@
 -- `table_is_in` meets its contract: of the table its life and its schema are looked at.
-use borrow.Author.Rules.{rules}
 use Prim.Native.Nat.{ℕ}
 use mathlib.Core.Path.{◌≡◌, refl, ap}
 use mathlib.Core.Bool.{Bool, ◌&&◌}

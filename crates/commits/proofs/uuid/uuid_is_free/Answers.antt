@@ -1,5 +1,4 @@
 -- `uuid_is_free` meets its contract: the three tables of files are looked through, each as the definition has it.
-use borrow.Author.Rules.{rules}
 use Rattle.commits.proofs.Uuids.{free_is}
 use Rattle.commits.proofs.uuid.uuid_is_free.Goals as goal
 

@@ -1,13 +1,11 @@
 -- `uuid_is_nowhere` meets its contract: the loop goes on while no record has the two words.
-use borrow.Author.Rules.{rules}
-use Prim.Native.Nat.{ℕ, ◌+◌, ◌-◌, ◌≤◌}
+use Prim.Native.Nat.{ℕ, ◌+◌}
 use mathlib.Core.Path.{◌≡◌, refl, sym, ◌∙◌}
 use mathlib.Core.Bool.{Bool, not, ◌&&◌}
 use mathlib.Core.List.{List}
 use native.Mathlib.Omega.{arith}
 use lib.Dec.{eqb}
-use Rattle.lists.specs.Lists.{all}
-use Rattle.lists.specs.Runs.{from, field, pair_at, pairs}
+use Rattle.lists.specs.Runs.{field, pair_at}
 use Rattle.lists.proofs.Loops.{all_start, all_pass, all_fail, all_end}
 use Rattle.lists.proofs.Runs.{record_fits}
 use Rattle.layout.specs.declared.record.Uuid.{Uuid}

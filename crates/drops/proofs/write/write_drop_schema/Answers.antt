@@ -1,5 +1,4 @@
 -- `write_drop_schema` meets its contract: the snapshot that is appended and the schema that ends are those of the effect.
-use borrow.Author.Rules.{rules}
 use Rattle.drops.proofs.Effects.{drop_schema_stored}
 use Rattle.drops.proofs.write.write_drop_schema.Goals as goal
 

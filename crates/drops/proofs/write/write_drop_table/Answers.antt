@@ -1,5 +1,4 @@
 -- `write_drop_table` meets its contract: the snapshot that is appended and the records that end are those of the effect.
-use borrow.Author.Rules.{rules}
 use Rattle.drops.proofs.Effects.{drop_table_stored}
 use Rattle.drops.proofs.write.write_drop_table.Goals as goal
 

@@ -1,14 +1,11 @@
 -- `count_removed` meets its contract: each turn counts the record at its place, as the definition does.
-use borrow.Author.Rules.{rules}
 use Prim.Native.Nat.{ℕ, ◌≤◌, ◌-◌}
-use mathlib.Core.Path.{◌≡◌, sym, ap, ◌∙◌}
+use mathlib.Core.Path.{◌≡◌}
 use mathlib.Core.Bool.{Bool, not}
 use mathlib.Core.List.{List}
-use native.Mathlib.Omega.{arith}
 use lib.ListN.{length}
 use Rattle.lists.specs.Lists.{filter, range}
-use Rattle.lists.proofs.Selections.{map-id}
-use Rattle.lists.proofs.Loops.{counted, counted_start, counted_pass, counted_fail, counted_end}
+use Rattle.lists.proofs.Loops.{counted}
 use Rattle.expiry.specs.Remaining.{ids_in, stays}
 use Rattle.expiry.proofs.flag.count_removed.Given as goal
 

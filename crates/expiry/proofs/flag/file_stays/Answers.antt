@@ -1,5 +1,4 @@
 -- `file_stays` meets its contract: ids ascend, so no other data file has the id that was found.
-use borrow.Author.Rules.{rules}
 use Prim.Native.Nat.{ℕ}
 use mathlib.Core.Path.{◌≡◌, sym, ◌∙◌}
 use mathlib.Core.Bool.{true, false}

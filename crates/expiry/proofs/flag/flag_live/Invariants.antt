@@ -1,11 +1,8 @@
 -- `flag_live` meets its contract: each turn sets the flag of its place.
-use borrow.Author.Rules.{rules}
 use Prim.Native.Nat.{◌≤◌, ◌-◌}
 use mathlib.Core.Path.{◌≡◌}
-use native.Mathlib.Omega.{arith}
 use lib.ListN.{length}
 use Rattle.lists.specs.Pieces.{Flags}
-use Rattle.lists.proofs.Flags.{flags_start, flags_next}
 use Rattle.expiry.specs.Remaining.{ids_in, stays}
 use Rattle.expiry.proofs.flag.flag_live.Given as goal
 

@@ -1,13 +1,8 @@
 -- `flag_snapshots` meets its contract: each turn sets the flag of its place.
-use borrow.Author.Rules.{rules}
 use Prim.Native.Nat.{◌≤◌, ◌-◌}
-use mathlib.Core.Path.{◌≡◌, ap, ◌∙◌}
-use mathlib.Core.Bool.{not}
-use native.Mathlib.Omega.{arith}
+use mathlib.Core.Path.{◌≡◌}
 use lib.ListN.{length}
-use Rattle.lists.specs.Lists.{has}
 use Rattle.lists.specs.Pieces.{Flags}
-use Rattle.lists.proofs.Flags.{flags_start, flags_next}
 use Rattle.expiry.specs.Remaining.{snapshot_stays}
 use Rattle.expiry.proofs.flag.flag_snapshots.Given as goal
 

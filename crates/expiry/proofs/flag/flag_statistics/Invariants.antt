@@ -1,13 +1,10 @@
 -- `flag_statistics` meets its contract: each turn sets the flag of its place.
-use borrow.Author.Rules.{rules}
 use Prim.Native.Nat.{◌≤◌, ◌-◌}
-use mathlib.Core.Path.{◌≡◌, ap, ◌∙◌}
-use native.Mathlib.Omega.{arith}
+use mathlib.Core.Path.{◌≡◌}
 use lib.ListN.{length}
 use Rattle.lists.specs.Pieces.{Flags}
-use Rattle.lists.proofs.Flags.{flags_start, flags_next}
 use Rattle.expiry.specs.Remaining.{ids_in}
-use Rattle.expiry.specs.Stayed.{file_stays, statistics_stay}
+use Rattle.expiry.specs.Stayed.{statistics_stay}
 use Rattle.expiry.proofs.flag.flag_statistics.Given as goal
 
 abbrev pub invariant-loop-i : goal.invariant-loop-i

@@ -1,5 +1,4 @@
 -- `stays_at` meets its contract: the record's life is read at its place.
-use borrow.Author.Rules.{rules}
 use mathlib.Core.Path.{ap, ◌∙◌}
 use Rattle.lists.proofs.Runs.{record_fits}
 use Rattle.lookup.specs.Versions.{with_life, live_among}

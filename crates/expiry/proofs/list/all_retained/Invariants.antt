@@ -1,13 +1,9 @@
 -- `all_retained` meets its contract: the loop tests each id, as the definition does.
-use borrow.Author.Rules.{rules}
 use Prim.Native.Nat.{◌≤◌, ◌-◌}
-use mathlib.Core.Path.{◌≡◌, refl, sym, ap, ◌∙◌}
-use native.Mathlib.Omega.{arith}
+use mathlib.Core.Path.{◌≡◌}
 use lib.ListN.{length}
 use Rattle.lists.specs.Lists.{all}
 use Rattle.lists.specs.Runs.{from, field}
-use Rattle.lists.proofs.Layouts.{fields_words}
-use Rattle.lists.proofs.Loops.{all_start, all_passed, all_failed, all_end}
 use Rattle.layout.specs.Words.{snapshots_in}
 use Rattle.ducklake.specs.Liveness.{retained}
 use Rattle.expiry.specs.Remaining.{id_size}

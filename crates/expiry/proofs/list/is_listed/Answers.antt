@@ -1,5 +1,4 @@
 -- `is_listed` meets its contract: a word of the list has a place in it.
-use borrow.Author.Rules.{rules}
 use mathlib.Core.Path.{refl, sym, ap, ◌∙◌}
 use native.Mathlib.Omega.{arith}
 use lib.Dec.{ltb}

@@ -1,17 +1,11 @@
 -- `lacks` meets its contract: the loop tests each id, and none is the snapshot's where the list doesn't have it.
-use borrow.Author.Rules.{rules}
 use Prim.Native.Nat.{ℕ, ◌≤◌, ◌-◌}
-use mathlib.Core.Path.{◌≡◌, refl, sym, ap, ◌∙◌}
+use mathlib.Core.Path.{◌≡◌}
 use mathlib.Core.Bool.{Bool, not}
-use native.Mathlib.Omega.{arith}
-use borrow.Author.Tests.{eq-eqb, ne_eqb}
 use lib.Dec.{eqb}
 use lib.ListN.{length}
 use Rattle.lists.specs.Lists.{all}
 use Rattle.lists.specs.Runs.{from, field}
-use Rattle.lists.proofs.Layouts.{fields_words}
-use Rattle.lists.proofs.Loops.{all_start, all_pass, all_fail, all_end}
-use Rattle.lists.proofs.Selections.{not_any_all}
 use Rattle.expiry.specs.Remaining.{id_size}
 use Rattle.expiry.proofs.list.lacks.Given as goal
 

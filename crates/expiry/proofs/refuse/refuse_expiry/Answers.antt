@@ -1,5 +1,4 @@
 -- `refuse_expiry` meets its contract: its tests, folded in the definition's order.
-use borrow.Author.Rules.{rules}
 use mathlib.Core.Path.{refl}
 use borrow.Author.Tests.{not-false}
 use Rattle.ducklake.specs.Calls.{answer}

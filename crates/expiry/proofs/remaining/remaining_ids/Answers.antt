@@ -1,6 +1,4 @@
 -- `remaining_ids` meets its contract: each turn writes the id of its snapshot, if it is not listed, behind those written before.
-use borrow.Author.Rules.{rules}
-use Prim.Native.Nat.{◌≤◌, ◌-◌}
 use mathlib.Core.Path.{◌≡◌, refl, sym, ap, ◌∙◌}
 use mathlib.Core.Bool.{not}
 use mathlib.Core.List.{List, map}
@@ -8,7 +6,7 @@ use native.Mathlib.Omega.{arith}
 use lib.Dec.{ltb}
 use lib.ListN.{length, length-set, length-map}
 use Rattle.lists.specs.Lists.{has, chained}
-use Rattle.lists.proofs.Loops.{counted, counted_start, counted_pass, counted_fail, counted_end, sent, sent_start, sent_pass, sent_fail, sent_end}
+use Rattle.lists.proofs.Loops.{counted_start, counted_pass, counted_fail, counted_end, sent_start, sent_pass, sent_fail, sent_end}
 use Rattle.layout.specs.Catalog.{Snapshot}
 use Rattle.layout.specs.Words.{snapshot_at, snapshots_in}
 use Rattle.ducklake.specs.Maintenance.{leaves, remaining}

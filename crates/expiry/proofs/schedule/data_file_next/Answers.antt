@@ -1,5 +1,4 @@
 -- `data_file_next` meets its contract: it tests as the definition does.
-use borrow.Author.Rules.{rules}
 use mathlib.Core.Path.{refl, ap₂}
 use borrow.Author.Tests.{lt-ltb, le-ltb, le-leb, lt-leb}
 use lib.Dec.{leb}

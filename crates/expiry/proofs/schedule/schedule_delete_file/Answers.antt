@@ -1,5 +1,4 @@
 -- `schedule_delete_file` meets its contract: the record is read, and its id and UUID are written.
-use borrow.Author.Rules.{rules}
 use mathlib.Core.Path.{ap, ◌∙◌}
 use Prim.Native.Nat.{◌*◌}
 use Rattle.lists.specs.Runs.{overwrite}

@@ -1,12 +1,10 @@
 -- `schedule_removed` meets its contract: each turn passes the file of the lowest id that is left, and writes it, if it goes, behind those written before.
-use borrow.Author.Rules.{rules}
-use Prim.Native.Nat.{◌≤◌, ◌<◌, ◌+◌, ◌*◌, ◌-◌}
-use mathlib.Core.Path.{◌≡◌, refl}
+use Prim.Native.Nat.{◌≤◌, ◌<◌, ◌+◌, ◌*◌}
+use mathlib.Core.Path.{refl}
 use native.Mathlib.Omega.{arith}
 use lib.ListN.{length}
 use Rattle.layout.specs.Fields.{scheduled_size}
-use Rattle.expiry.specs.Remaining.{ids_in}
-use Rattle.expiry.proofs.Merged.{scheduling, Turn, next_data_file, data_file_fits, data_file_scheduled_lem, data_file_kept, next_delete_file, delete_file_fits, delete_file_scheduled_lem, delete_file_kept, scheduling_done}
+use Rattle.expiry.proofs.Merged.{Turn, next_data_file, data_file_fits, data_file_scheduled_lem, data_file_kept, next_delete_file, delete_file_fits, delete_file_scheduled_lem, delete_file_kept, scheduling_done}
 use Rattle.expiry.proofs.schedule.schedule_removed.Goals as goal
 
 pub loop-i-init : goal.loop-i-init

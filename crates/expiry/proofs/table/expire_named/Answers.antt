@@ -1,5 +1,4 @@
 -- `expire_named` meets its contract: records and names go by the same flags.
-use borrow.Author.Rules.{rules}
 use native.Mathlib.Omega.{arith}
 use Rattle.lists.proofs.Flags.{compacted_as, compacted_beside}
 use Rattle.layout.specs.Names.{name_size}

@@ -1,5 +1,4 @@
 -- `expire_records` meets its contract: the flags are those of what stays.
-use borrow.Author.Rules.{rules}
 use Rattle.lists.proofs.Flags.{compacted_as}
 use Rattle.expiry.proofs.table.expire_records.Goals as goal
 

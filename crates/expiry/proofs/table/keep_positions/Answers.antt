@@ -1,12 +1,10 @@
 -- `keep_positions` meets its contract: each turn moves the positions of its delete file down, if it stays; the rest is cleared.
-use borrow.Author.Rules.{rules}
-use Prim.Native.Nat.{◌≤◌, ◌+◌, ◌-◌}
-use mathlib.Core.Path.{◌≡◌, refl, sym, ap, ◌∙◌}
+use Prim.Native.Nat.{◌+◌}
+use mathlib.Core.Path.{refl, sym, ap, ◌∙◌}
 use native.Mathlib.Omega.{arith}
-use lib.ListN.{length}
 use Rattle.lists.specs.Pieces.{flagged}
-use Rattle.lists.proofs.Compaction.{compacted, next_start, piece_fits, end_fits, compacted_pass, compacted_fail, compacted_done}
-use Rattle.layout.specs.Words.{positions_before, positions_first, position_pieces}
+use Rattle.lists.proofs.Compaction.{next_start, piece_fits, end_fits, compacted_pass, compacted_fail, compacted_done}
+use Rattle.layout.specs.Words.{positions_first, position_pieces}
 use Rattle.expiry.proofs.table.keep_positions.Goals as goal
 
 pub loop-i-init : goal.loop-i-init

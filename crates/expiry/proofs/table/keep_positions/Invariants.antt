@@ -1,12 +1,10 @@
 -- `keep_positions` meets its contract: each turn moves the positions of its delete file down, if it stays; the rest is cleared.
-use borrow.Author.Rules.{rules}
-use Prim.Native.Nat.{◌≤◌, ◌+◌, ◌-◌}
-use mathlib.Core.Path.{◌≡◌, refl, sym, ap, ◌∙◌}
-use native.Mathlib.Omega.{arith}
+use Prim.Native.Nat.{◌≤◌, ◌-◌}
+use mathlib.Core.Path.{◌≡◌}
 use lib.ListN.{length}
 use Rattle.lists.specs.Pieces.{flagged}
-use Rattle.lists.proofs.Compaction.{compacted, next_start, piece_fits, end_fits, compacted_pass, compacted_fail, compacted_done}
-use Rattle.layout.specs.Words.{positions_before, positions_first, position_pieces}
+use Rattle.lists.proofs.Compaction.{compacted}
+use Rattle.layout.specs.Words.{positions_before, position_pieces}
 use Rattle.expiry.proofs.table.keep_positions.Given as goal
 
 abbrev pub invariant-loop-i : goal.invariant-loop-i

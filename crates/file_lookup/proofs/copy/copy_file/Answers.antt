@@ -1,5 +1,4 @@
 -- `copy_file` keeps the promise: refused as the lookup is, or the words of the part that was found, or 3.
-use borrow.Author.Rules.{rules}
 use Rattle.file_lookup.proofs.Places.{copy_refused, copy_answered}
 use Rattle.file_lookup.proofs.copy.copy_file.Goals as goal
 

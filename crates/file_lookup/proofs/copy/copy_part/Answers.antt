@@ -1,13 +1,11 @@
 -- `copy_part` meets its contract: the loop writes each word of the part in its place.
-use borrow.Author.Rules.{rules}
-use Prim.Native.Nat.{◌≤◌, ◌-◌}
-use mathlib.Core.Path.{◌≡◌, refl, sym, ap, ◌∙◌}
+use mathlib.Core.Path.{refl, sym, ap, ◌∙◌}
 use native.Mathlib.Omega.{arith}
-use lib.ListN.{length, get_or, length-set}
+use lib.ListN.{length, length-set}
 use lib.Seq.{take-length}
 use Rattle.lists.specs.Runs.{overwrite}
 use Rattle.lists.proofs.Layouts.{words_one_by_one}
-use Rattle.lists.proofs.Loops.{filled, filled_start, filled_next, filled_end}
+use Rattle.lists.proofs.Loops.{filled_start, filled_next, filled_end}
 use Rattle.readings.proofs.AnswerAreas.{answered_short, answered_whole}
 use Rattle.file_lookup.proofs.copy.copy_part.Goals as goal
 

@@ -1,14 +1,8 @@
 -- `copy_part` meets its contract: the loop writes each word of the part in its place.
-use borrow.Author.Rules.{rules}
 use Prim.Native.Nat.{◌≤◌, ◌-◌}
-use mathlib.Core.Path.{◌≡◌, refl, sym, ap, ◌∙◌}
-use native.Mathlib.Omega.{arith}
-use lib.ListN.{length, get_or, length-set}
-use lib.Seq.{take-length}
-use Rattle.lists.specs.Runs.{overwrite}
-use Rattle.lists.proofs.Layouts.{words_one_by_one}
-use Rattle.lists.proofs.Loops.{filled, filled_start, filled_next, filled_end}
-use Rattle.readings.proofs.AnswerAreas.{answered_short, answered_whole}
+use mathlib.Core.Path.{◌≡◌}
+use lib.ListN.{length, get_or}
+use Rattle.lists.proofs.Loops.{filled}
 use Rattle.file_lookup.proofs.copy.copy_part.Given as goal
 
 abbrev pub invariant-loop-i : goal.invariant-loop-i

@@ -1,5 +1,4 @@
 -- `find_file` keeps the promise: unsound tables give an empty part; else it is the part that was found.
-use borrow.Author.Rules.{rules}
 use mathlib.Core.Path.{refl}
 use Rattle.refusals.proofs.Laws.{is_sound_lem}
 use Rattle.readings.proofs.Found.{data_files_by_id_lem, delete_files_by_id_lem}

@@ -1,5 +1,4 @@
 -- The record is at the place that its id has, among the data files or else among the delete files.
-use borrow.Author.Rules.{rules}
 use Prim.Native.Nat.{◌+◌, ◌*◌, ◌≤◌}
 use mathlib.Core.Path.{refl}
 use native.Mathlib.Omega.{arith}

@@ -1,14 +1,8 @@
 -- `count_live` meets its contract: the loop counts the records that are live.
-use borrow.Author.Rules.{rules}
-use Prim.Native.Nat.{◌≤◌, ◌-◌}
-use mathlib.Core.Path.{◌≡◌, sym, ◌∙◌}
+use mathlib.Core.Path.{sym, ◌∙◌}
 use native.Mathlib.Omega.{arith}
-use lib.ListN.{length}
 use Rattle.lists.proofs.Runs.{record_fits}
-use Rattle.lists.proofs.Loops.{counted, counted_from, counted_pass, counted_fail, counted_end}
-use Rattle.ducklake.specs.Liveness.{live}
-use Rattle.lookup.specs.Versions.{life_at, with_life}
-use Rattle.listings.specs.Places.{places_live}
+use Rattle.lists.proofs.Loops.{counted_from, counted_pass, counted_fail, counted_end}
 use Rattle.listings.proofs.lives.count_live.Goals as goal
 
 pub loop-i-init : goal.loop-i-init

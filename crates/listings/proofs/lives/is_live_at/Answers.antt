@@ -1,5 +1,4 @@
 -- `is_live_at` meets its contract: of a record only the life is looked at.
-use borrow.Author.Rules.{rules}
 use mathlib.Core.Path.{ap, ◌∙◌}
 use Rattle.ducklake.specs.Liveness.{live}
 use Rattle.lookup.specs.Versions.{with_life}

@@ -1,14 +1,9 @@
 -- The loop tests each table as the definition does.
-use borrow.Author.Rules.{rules}
-use Prim.Native.Nat.{◌≤◌, ◌-◌}
-use mathlib.Core.Path.{◌≡◌, sym, ap₂, ◌∙◌}
+use mathlib.Core.Path.{sym, ap₂, ◌∙◌}
 use mathlib.Core.Bool.{Bool, ◌&&◌}
 use native.Mathlib.Omega.{arith}
-use Rattle.lists.specs.Lists.{place}
-use Rattle.lists.specs.Runs.{from}
 use Rattle.lists.proofs.Loops.{place-start, place_hit, place_miss, place_end}
-use Rattle.layout.specs.Words.{table_at, tables_in}
-use Rattle.listings.specs.Tests.{is_named, place_of_named}
+use Rattle.listings.specs.Tests.{place_of_named}
 use Rattle.listings.proofs.named.find_named_table.Goals as goal
 
 pub loop-i-init : goal.loop-i-init

@@ -1,5 +1,4 @@
 -- `find_table_by_name` keeps the promise: refused, or the answer or 3.
-use borrow.Author.Rules.{rules}
 use Rattle.readings.proofs.Promises.{reading_refused, reading_answered, reading_sound}
 use Rattle.readings.proofs.Found.{tables_by_id_lem, table_names_lent_lem}
 use Rattle.listings.proofs.Answers.{named_answer, named_some}

@@ -1,5 +1,4 @@
 -- `is_table_named` meets its contract: there is one just where the first one has a place.
-use borrow.Author.Rules.{rules}
 use mathlib.Core.Path.{sym, ap, ◌∙◌}
 use Rattle.lists.proofs.Places.{is_at}
 use Rattle.listings.proofs.Naming.{named_found}

@@ -1,5 +1,4 @@
 -- `named_table_id` meets its contract: there is a table of that name, and the first one is the answer.
-use borrow.Author.Rules.{rules}
 use mathlib.Core.Path.{sym, ap, ◌∙◌}
 use mathlib.Core.List.{◌∷◌, []}
 use Rattle.lists.proofs.Runs.{record_fits}

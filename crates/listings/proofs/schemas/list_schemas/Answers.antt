@@ -1,5 +1,4 @@
 -- `list_schemas` keeps the promise: refused, or the answer or 3.
-use borrow.Author.Rules.{rules}
 use Rattle.readings.proofs.Promises.{reading_refused, reading_answered, reading_sound}
 use Rattle.readings.proofs.Found.{schemas_by_id_lem}
 use Rattle.listings.proofs.Answers.{schemas_answer}

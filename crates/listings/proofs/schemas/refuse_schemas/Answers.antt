@@ -1,5 +1,4 @@
 -- `refuse_schemas` meets its contract: unsound tables, or a snapshot that isn't retained.
-use borrow.Author.Rules.{rules}
 use Rattle.refusals.proofs.Laws.{is_sound_lem, reading_unsound}
 use Rattle.refusals.proofs.Tests.{◌then◌, done, reading_judged}
 use Rattle.readings.proofs.Found.{snapshots_by_id}

@@ -1,14 +1,8 @@
 -- The loop tests each table as the definition does, and counts those that pass.
-use borrow.Author.Rules.{rules}
-use Prim.Native.Nat.{ℕ, ◌≤◌, ◌-◌}
-use mathlib.Core.Path.{◌≡◌, sym, ◌∙◌}
-use mathlib.Core.List.{List}
+use mathlib.Core.Path.{sym, ◌∙◌}
 use native.Mathlib.Omega.{arith}
-use lib.ListN.{length}
-use Rattle.lists.proofs.Loops.{counted, counted_start, counted_pass, counted_fail, counted_end}
-use Rattle.layout.specs.Words.{table_at, tables_in}
+use Rattle.lists.proofs.Loops.{counted_start, counted_pass, counted_fail, counted_end}
 use Rattle.ducklake.specs.Liveness.{tables_at}
-use Rattle.listings.specs.Tests.{in_schema}
 use Rattle.listings.proofs.tables.count_tables.Goals as goal
 
 pub loop-i-init : goal.loop-i-init

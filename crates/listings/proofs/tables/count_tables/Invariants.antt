@@ -1,11 +1,9 @@
 -- The loop tests each table as the definition does, and counts those that pass.
-use borrow.Author.Rules.{rules}
 use Prim.Native.Nat.{ℕ, ◌≤◌, ◌-◌}
-use mathlib.Core.Path.{◌≡◌, sym, ◌∙◌}
+use mathlib.Core.Path.{◌≡◌}
 use mathlib.Core.List.{List}
-use native.Mathlib.Omega.{arith}
 use lib.ListN.{length}
-use Rattle.lists.proofs.Loops.{counted, counted_start, counted_pass, counted_fail, counted_end}
+use Rattle.lists.proofs.Loops.{counted}
 use Rattle.layout.specs.Words.{table_at, tables_in}
 use Rattle.ducklake.specs.Liveness.{tables_at}
 use Rattle.listings.specs.Tests.{in_schema}

@@ -1,5 +1,4 @@
 -- `list_tables` keeps the promise: refused, or the answer or 3.
-use borrow.Author.Rules.{rules}
 use Rattle.readings.proofs.Promises.{reading_refused, reading_answered, reading_sound}
 use Rattle.readings.proofs.Found.{tables_by_id_lem}
 use Rattle.listings.proofs.Answers.{tables_answer}

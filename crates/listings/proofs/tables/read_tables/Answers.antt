@@ -1,15 +1,12 @@
 -- `read_tables` meets its contract: the loop tests each table as the definition does, and writes the ids of those that pass one behind the other: there is room for all of them.
-use borrow.Author.Rules.{rules}
-use Prim.Native.Nat.{ℕ, ◌≤◌, ◌-◌, ◌<◌}
-use mathlib.Core.Path.{◌≡◌, refl, sym, ap, ◌∙◌}
-use mathlib.Core.List.{List, []}
+use Prim.Native.Nat.{◌<◌}
+use mathlib.Core.Path.{refl, sym, ap, ◌∙◌}
+use mathlib.Core.List.{[]}
 use native.Mathlib.Omega.{arith}
 use lib.ListN.{length, length-set, length-map}
-use Rattle.lists.proofs.Loops.{counted, counted_start, counted_pass, counted_fail, counted_room, sent, sent_start, sent_pass, sent_fail, sent_end}
+use Rattle.lists.proofs.Loops.{counted_start, counted_pass, counted_fail, counted_room, sent_start, sent_pass, sent_fail, sent_end}
 use Rattle.readings.proofs.AnswerAreas.{answered_short, answered_whole}
-use Rattle.layout.specs.Words.{table_at, tables_in}
 use Rattle.ducklake.specs.Liveness.{tables_at}
-use Rattle.listings.specs.Tests.{in_schema}
 use Rattle.listings.proofs.tables.read_tables.Goals as goal
 
 pub returns-then-area-length : goal.returns-then-area-length

@@ -1,5 +1,4 @@
 -- `refuse_tables` meets its contract: unsound tables, or the first of its tests that isn't passed.
-use borrow.Author.Rules.{rules}
 use Rattle.refusals.proofs.Laws.{is_sound_lem, reading_unsound}
 use Rattle.refusals.proofs.Tests.{◌then◌, done, reading_judged}
 use Rattle.readings.proofs.Found.{snapshots_by_id, schemas_by_id_lem}

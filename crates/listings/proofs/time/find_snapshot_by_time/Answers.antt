@@ -1,5 +1,4 @@
 -- `find_snapshot_by_time` keeps the promise: refused, or the answer or 3.
-use borrow.Author.Rules.{rules}
 use Rattle.readings.proofs.Promises.{reading_refused, reading_answered, reading_sound}
 use Rattle.readings.proofs.Found.{snapshots_by_id, snapshots_by_time_lem}
 use Rattle.listings.proofs.Answers.{by_time_answer, by_time_some}

@@ -1,5 +1,4 @@
 -- `is_snapshot_by` meets its contract: there is one just where the latest one has a place.
-use borrow.Author.Rules.{rules}
 use mathlib.Core.Path.{sym}
 use Rattle.listings.proofs.time.is_snapshot_by.Goals as goal
 

@@ -1,5 +1,4 @@
 -- `latest_id_by` meets its contract: there is a snapshot by then, and the place found is that of the highest id.
-use borrow.Author.Rules.{rules}
 use mathlib.Core.Path.{sym, ap, ◌∙◌}
 use Rattle.lists.proofs.Runs.{record_fits}
 use Rattle.lists.proofs.Tests.{clash}

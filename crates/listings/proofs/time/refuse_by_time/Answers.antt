@@ -1,5 +1,4 @@
 -- `refuse_by_time` meets its contract: unsound tables, or no snapshot by then.
-use borrow.Author.Rules.{rules}
 use Rattle.refusals.proofs.Laws.{is_sound_lem, reading_unsound}
 use Rattle.refusals.proofs.Tests.{◌then◌, done, reading_judged}
 use Rattle.readings.proofs.Found.{snapshots_by_id, snapshots_by_time_lem}

@@ -1,5 +1,4 @@
 -- `statistics_near` meets its contract: where the word never falls, the records that have it stand between the two counts.
-use borrow.Author.Rules.{rules}
 use Rattle.lists.proofs.Blocks.{together}
 use Rattle.lookup.proofs.block.statistics_near.Goals as goal
 

@@ -1,21 +1,14 @@
 -- `find_live_delete_file` meets its contract: the loop tests each delete file as the definition does.
-use borrow.Author.Rules.{rules}
 use Prim.Native.Nat.{ℕ, ◌-◌, ◌≤◌}
-use mathlib.Core.Path.{◌≡◌, refl, sym, ap, ◌∙◌}
+use mathlib.Core.Path.{◌≡◌}
 use mathlib.Core.Bool.{Bool, ◌&&◌}
 use mathlib.Core.List.{List}
-use native.Mathlib.Omega.{arith}
 use lib.Dec.{eqb}
 use Rattle.lists.specs.Lists.{place}
-use Rattle.lists.specs.Runs.{from, field, at}
-use Rattle.lists.proofs.Loops.{place-start, place_hit, place_miss, place_end}
+use Rattle.lists.specs.Runs.{from}
 use Rattle.layout.specs.Catalog.{Versioned, DeleteFile}
-use Rattle.layout.specs.Fields.{delete_file_size, delete_file_begin_word}
-use Rattle.layout.specs.Records.{delete_file_layout}
 use Rattle.layout.specs.Words.{delete_file_at, delete_files_in}
 use Rattle.ducklake.specs.Liveness.{live}
-use Rattle.lookup.specs.Versions.{life_at, with_life}
-use Rattle.lookup.specs.declared.life.Life.{Life}
 use Rattle.lookup.proofs.deletion.find_live_delete_file.Given as goal
 
 abbrev pub test : ℕ → ℕ → Versioned DeleteFile → Bool

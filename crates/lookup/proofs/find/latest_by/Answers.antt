@@ -1,6 +1,4 @@
 -- `latest_by` meets its contract: the snapshots by t are those before the place found.
-use borrow.Author.Rules.{rules}
-use mathlib.Core.Path.{◌∙◌}
 use native.Mathlib.Omega.{arith}
 use Rattle.lookup.proofs.Times.{by_most, by_none, by_some, by_highest}
 use Rattle.lookup.proofs.find.latest_by.Goals as goal

@@ -1,5 +1,4 @@
 -- `latest_snapshot` meets its contract: the last of n records is the one before the place n.
-use borrow.Author.Rules.{rules}
 use mathlib.Core.Path.{sym, ap, ◌∙◌}
 use Rattle.layout.specs.Catalog.{snapshot_of}
 use Rattle.layout.specs.Words.{snapshot_at}

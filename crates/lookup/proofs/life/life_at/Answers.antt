@@ -1,5 +1,4 @@
 -- `life_at` meets its contract: begin and end are two words that follow each other.
-use borrow.Author.Rules.{rules}
 use mathlib.Core.Path.{ap₂}
 use Rattle.layout.specs.Records.{snapshot_id}
 use Rattle.lookup.specs.declared.life.Life.{Life}

@@ -1,5 +1,4 @@
 -- `is_live_among_near` meets its contract: live at the last number or, if not, the place found is that of the first number from the begin on.
-use borrow.Author.Rules.{rules}
 use mathlib.Core.Path.{sym, ap, ◌∙◌}
 use native.Mathlib.Omega.{arith}
 use Rattle.lists.specs.Runs.{field}

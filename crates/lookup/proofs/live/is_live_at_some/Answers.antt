@@ -1,5 +1,4 @@
 -- `is_live_at_some` meets its contract: a snapshot is told by its id.
-use borrow.Author.Rules.{rules}
 use mathlib.Core.Path.{sym, ◌∙◌}
 use Rattle.lookup.specs.Versions.{with_life}
 use Rattle.lookup.proofs.Liveness.{live_ids}

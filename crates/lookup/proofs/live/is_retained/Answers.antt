@@ -1,5 +1,4 @@
 -- `is_retained` meets its contract: a snapshot of that id is there just where it has a place.
-use borrow.Author.Rules.{rules}
 use Prim.Native.Nat.{ℕ}
 use mathlib.Core.Path.{◌≡◌, sym, ap, ◌∙◌}
 use mathlib.Core.List.{List}

@@ -1,5 +1,4 @@
 -- `schema_is_live` meets its contract: of a schema only id and life are looked at.
-use borrow.Author.Rules.{rules}
 use mathlib.Core.Path.{refl, ◌∙◌}
 use Rattle.lists.specs.Lists.{range}
 use Rattle.lists.specs.Runs.{field}

@@ -1,5 +1,4 @@
 -- `table_is_live` meets its contract: of a table only id and life are looked at.
-use borrow.Author.Rules.{rules}
 use mathlib.Core.Path.{refl, ◌∙◌}
 use Rattle.lists.specs.Lists.{range}
 use Rattle.lists.specs.Runs.{field}

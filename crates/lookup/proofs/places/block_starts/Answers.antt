@@ -1,7 +1,5 @@
 -- `block_starts` ends: each record is looked at once.
-use borrow.Author.Rules.{rules}
-use mathlib.Core.Path.{◌≡◌, refl}
-use lib.ListN.{length}
+use mathlib.Core.Path.{refl}
 use Rattle.lookup.proofs.places.block_starts.Goals as goal
 
 pub loop-i-init : goal.loop-i-init

@@ -1,6 +1,5 @@
 -- `block_starts` ends: each record is looked at once.
-use borrow.Author.Rules.{rules}
-use mathlib.Core.Path.{◌≡◌, refl}
+use mathlib.Core.Path.{◌≡◌}
 use lib.ListN.{length}
 use Rattle.lookup.proofs.places.block_starts.Given as goal
 

@@ -1,9 +1,6 @@
 -- `locate` meets its contract: every look is within its run.
-use borrow.Author.Rules.{rules}
-use Prim.Native.Nat.{◌-◌, ◌≤◌}
 use native.Mathlib.Omega.{arith}
-use mathlib.Core.Path.{◌≡◌, refl}
-use lib.ListN.{length}
+use mathlib.Core.Path.{refl}
 use Rattle.lists.proofs.Runs.{record_fits}
 use Rattle.lookup.proofs.places.locate.Goals as goal
 

@@ -1,14 +1,10 @@
 -- `position_starts` meets its contract: the sum so far is what the delete files before i have, and each is written at its place.
 use borrow.Author.Rules.{rules}
-use Prim.Native.Nat.{◌-◌, ◌≤◌}
-use mathlib.Core.Path.{◌≡◌, sym, ◌∙◌}
-use mathlib.Core.List.{map}
+use mathlib.Core.Path.{sym, ◌∙◌}
 use native.Mathlib.Omega.{arith}
-use lib.ListN.{length, length-set}
-use Rattle.lists.specs.Lists.{range}
-use Rattle.lists.specs.Runs.{overwrite}
-use Rattle.lists.proofs.Loops.{filled, filled_start, filled_next, filled_end}
-use Rattle.layout.specs.Words.{positions_before, positions_first}
+use lib.ListN.{length-set}
+use Rattle.lists.proofs.Loops.{filled_start, filled_next, filled_end}
+use Rattle.layout.specs.Words.{positions_first}
 use Rattle.lookup.proofs.Locations.{positions_next, positions_room}
 use Rattle.lookup.proofs.positions.position_starts.Goals as goal
 

@@ -1,7 +1,5 @@
 -- `positions_before` meets its contract: the sum so far is what the delete files before i have.
-use borrow.Author.Rules.{rules}
-use Prim.Native.Nat.{◌-◌, ◌≤◌}
-use mathlib.Core.Path.{◌≡◌, sym, ap, ◌∙◌}
+use mathlib.Core.Path.{sym, ap, ◌∙◌}
 use native.Mathlib.Omega.{arith}
 use Rattle.layout.specs.Words.{positions_before, positions_first}
 use Rattle.lookup.proofs.Locations.{positions_next, positions_room}

@@ -1,10 +1,7 @@
 -- `positions_before` meets its contract: the sum so far is what the delete files before i have.
-use borrow.Author.Rules.{rules}
 use Prim.Native.Nat.{◌-◌, ◌≤◌}
-use mathlib.Core.Path.{◌≡◌, sym, ap, ◌∙◌}
-use native.Mathlib.Omega.{arith}
-use Rattle.layout.specs.Words.{positions_before, positions_first}
-use Rattle.lookup.proofs.Locations.{positions_next, positions_room}
+use mathlib.Core.Path.{◌≡◌}
+use Rattle.layout.specs.Words.{positions_before}
 use Rattle.lookup.proofs.positions.positions_before.Given as goal
 
 abbrev pub invariant-loop-i : goal.invariant-loop-i

@@ -1,5 +1,4 @@
 -- `positions_of` meets its contract: from where they begin on, as many as the record says.
-use borrow.Author.Rules.{rules}
 use Rattle.lookup.proofs.Locations.{positions_part}
 use Rattle.lookup.proofs.positions.positions_of.Goals as goal
 

@@ -1,5 +1,4 @@
 -- `hex_digit` meets its contract: below ten and from ten on, as the definition has it.
-use borrow.Author.Rules.{rules}
 use native.Mathlib.Omega.{arith}
 use borrow.Author.Tests.{lt-ltb, le-ltb}
 use Rattle.paths.proofs.path.hex_digit.Goals as goal

@@ -1,5 +1,4 @@
 -- `write_group` meets its contract: the dash is written behind the digits, of which there are n.
-use borrow.Author.Rules.{rules}
 use native.Mathlib.Omega.{arith}
 use Rattle.paths.proofs.Lengths.{hex_length}
 use Rattle.paths.proofs.Pieces.{written_then}

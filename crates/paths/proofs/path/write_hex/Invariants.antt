@@ -1,14 +1,9 @@
 -- `write_hex` meets its contract: the last digit is that of the remainder, and those before it are digits of the quotient.
-use borrow.Author.Rules.{rules}
-use Prim.Native.Nat.{◌+◌, ◌-◌, ◌≤◌}
-use mathlib.Core.Path.{◌≡◌, refl, sym, ◌∙◌}
-use native.Mathlib.Omega.{arith}
-use lib.ListN.{length, length-set}
+use Prim.Native.Nat.{◌≤◌}
+use mathlib.Core.Path.{◌≡◌}
+use lib.ListN.{length}
 use Rattle.lists.specs.Runs.{overwrite}
-use Rattle.lists.proofs.Runs.{overwrite_none}
 use Rattle.ducklake.specs.Paths.{hex}
-use Rattle.paths.proofs.Digits.{digit_next}
-use Rattle.paths.proofs.Lengths.{hex_length}
 use Rattle.paths.proofs.path.write_hex.Given as goal
 
 -- the first `left` digits are still to be written

@@ -1,5 +1,4 @@
 -- `write_path` meets its contract: the UUID is written behind the first bytes, and the last bytes behind the UUID.
-use borrow.Author.Rules.{rules}
 use native.Mathlib.Omega.{arith}
 use Rattle.ducklake.specs.Paths.{path}
 use Rattle.paths.proofs.Lengths.{uuid_length_lem}

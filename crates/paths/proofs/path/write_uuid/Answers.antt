@@ -1,5 +1,4 @@
 -- `write_uuid` meets its contract: five groups, each written behind the one before.
-use borrow.Author.Rules.{rules}
 use native.Mathlib.Omega.{arith}
 use Rattle.ducklake.specs.Paths.{uuid_text}
 use Rattle.paths.proofs.Pieces.{written_then}

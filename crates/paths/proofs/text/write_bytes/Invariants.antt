@@ -1,13 +1,8 @@
 -- `write_bytes` meets its contract: each byte is written in turn, and those from i on are still to be written.
-use borrow.Author.Rules.{rules}
 use Prim.Native.Nat.{◌+◌, ◌-◌, ◌≤◌}
-use mathlib.Core.Path.{◌≡◌, refl, sym, ◌∙◌}
-use native.Mathlib.Nat.{add-zero}
-use native.Mathlib.Omega.{arith}
-use lib.ListN.{length, drop, length-set, drop_of_length-le}
+use mathlib.Core.Path.{◌≡◌}
+use lib.ListN.{length, drop}
 use Rattle.lists.specs.Runs.{overwrite}
-use Rattle.lists.proofs.Runs.{overwrite_none}
-use Rattle.lists.proofs.Windows.{rest_step, overwrite_next}
 use Rattle.paths.proofs.text.write_bytes.Given as goal
 
 abbrev pub invariant-loop-i : goal.invariant-loop-i

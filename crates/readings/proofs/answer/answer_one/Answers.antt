@@ -1,5 +1,4 @@
 -- `answer_one` meets its contract: one word, where there is room for it.
-use borrow.Author.Rules.{rules}
 use mathlib.Core.Path.{refl, sym, ◌∙◌}
 use mathlib.Core.List.{◌∷◌, []}
 use Prim.Native.Nat.{◌+◌}

@@ -1,6 +1,5 @@
 -- `write_statistics` meets its contract: the words are written one after another, in the order of the layout.
 use Prim.Native.Nat.{◌*◌}
-use borrow.Author.Rules.{rules}
 use native.Mathlib.Numerals.{towards_suc}
 use native.Mathlib.Omega.{arith}
 use lib.ListN.{length-set}

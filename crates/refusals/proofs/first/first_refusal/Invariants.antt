@@ -1,12 +1,10 @@
 -- `first_refusal` meets its contract: the loop goes on while tests are passed.
-use borrow.Author.Rules.{rules}
 use Prim.Native.Nat.{◌-◌, ◌≤◌}
-use mathlib.Core.Path.{◌≡◌, sym, ◌∙◌}
-use native.Mathlib.Omega.{arith}
+use mathlib.Core.Path.{◌≡◌}
 use lib.ListN.{length}
 use Rattle.ducklake.specs.Refusals.{accepted, first}
 use Rattle.refusals.specs.Paired.{paired}
-use Rattle.refusals.proofs.Tests.{first_from, first-start, first_pass, first_fail, first_end}
+use Rattle.refusals.proofs.Tests.{first_from}
 use Rattle.refusals.proofs.first.first_refusal.Given as goal
 
 abbrev pub invariant-loop-i : goal.invariant-loop-i

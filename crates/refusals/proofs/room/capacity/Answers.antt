@@ -1,5 +1,4 @@
 -- `capacity` meets its contract: the room of each table by itself.
-use borrow.Author.Rules.{rules}
 use Prim.Native.Nat.{ℕ, min}
 use mathlib.Core.Path.{◌≡◌, refl}
 use lib.ListN.{length}

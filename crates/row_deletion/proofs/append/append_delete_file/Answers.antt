@@ -1,5 +1,4 @@
 -- `append_delete_file` meets its contract: what is written are the words of the record.
-use borrow.Author.Rules.{rules}
 use Prim.Native.Nat.{◌*◌}
 use mathlib.Core.Path.{ap, ◌∙◌}
 use Rattle.lists.specs.Runs.{overwrite}

@@ -1,5 +1,4 @@
 -- `delete_rows` keeps the promise: refused it leaves all as it was and gives a right place, accepted its writes are the effect and its counts those of the effect.
-use borrow.Author.Rules.{rules}
 use mathlib.Core.Path.{refl, ap, ◌∙◌}
 use Rattle.call_laws.specs.Writes.{add_counts}
 use Rattle.call_laws.proofs.CommitCounts.{delete_adds_lem}

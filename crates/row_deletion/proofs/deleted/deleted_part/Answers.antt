@@ -1,5 +1,4 @@
 -- `deleted_part` meets its contract: the delete file that is found is the only one, and its positions follow those of the ones before it.
-use borrow.Author.Rules.{rules}
 use native.Mathlib.Omega.{arith}
 use Rattle.lists.proofs.Runs.{record_fits}
 use Rattle.layout.specs.Fields.{delete_file_size}

@@ -1,5 +1,4 @@
 -- `positions_deleted` meets its contract: the part is as long as its count.
-use borrow.Author.Rules.{rules}
 use Rattle.row_deletion.proofs.Parts.{whole_part}
 use Rattle.row_deletion.proofs.deleted.positions_deleted.Goals as goal
 

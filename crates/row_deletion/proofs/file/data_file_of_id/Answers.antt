@@ -1,5 +1,4 @@
 -- `data_file_of_id` meets its contract: the first data file of the id stands at the place that is found.
-use borrow.Author.Rules.{rules}
 use mathlib.Core.Path.{ap, ◌∙◌}
 use Rattle.lists.proofs.Runs.{record_fits}
 use Rattle.lists.proofs.Places.{found_tells}

@@ -1,5 +1,4 @@
 -- `refused_place` meets its contract: with another number than 17 it is 0, with 17 the place that is found.
-use borrow.Author.Rules.{rules}
 use Prim.Native.Nat.{ℕ}
 use mathlib.Core.Path.{◌≡◌, refl, sym, ap, ◌∙◌}
 use mathlib.Core.Bool.{true}
@@ -11,7 +10,7 @@ use Rattle.lists.specs.Lists.{chained, has, place}
 use Rattle.layout.specs.Catalog.{Versioned, Snapshot, DeleteFile}
 use Rattle.ducklake.specs.Liveness.{deleted_at}
 use Rattle.ducklake.specs.Refusals.{already_deleted}
-use Rattle.row_deletion.specs.Deleted.{deleted_in, place_or_zero, refused_place}
+use Rattle.row_deletion.specs.Deleted.{place_or_zero, refused_place}
 use Rattle.row_deletion.proofs.place.refused_place.Goals as goal
 
 other : (number : ℕ) (old new : List ℕ) → (number ≡ already_deleted → ⊥) → 0 ≡ refused_place number old new

@@ -1,13 +1,7 @@
 -- `first_deleted` meets its contract: both lists ascend, so the lower of two that differ is not in what is left of the other list.
-use borrow.Author.Rules.{rules}
-use Prim.Native.Nat.{◌+◌, ◌-◌, ◌≤◌}
-use mathlib.Core.Path.{◌≡◌, sym, ◌∙◌}
-use mathlib.Core.Bool.{true}
+use mathlib.Core.Path.{sym, ◌∙◌}
 use native.Mathlib.Omega.{arith}
-use lib.Dec.{ltb}
-use lib.ListN.{length}
-use Rattle.lists.specs.Lists.{chained, has, place}
-use Rattle.row_deletion.proofs.Offending.{offending, offending_start, offending_end, offending_past, offending_here, offending_less, offending_more}
+use Rattle.row_deletion.proofs.Offending.{offending_start, offending_end, offending_past, offending_here, offending_less, offending_more}
 use Rattle.row_deletion.proofs.positions.first_deleted.Goals as goal
 
 pub loop-i-init : goal.loop-i-init

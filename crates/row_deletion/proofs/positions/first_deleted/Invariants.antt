@@ -1,13 +1,11 @@
 -- `first_deleted` meets its contract: both lists ascend, so the lower of two that differ is not in what is left of the other list.
-use borrow.Author.Rules.{rules}
 use Prim.Native.Nat.{◌+◌, ◌-◌, ◌≤◌}
-use mathlib.Core.Path.{◌≡◌, sym, ◌∙◌}
+use mathlib.Core.Path.{◌≡◌}
 use mathlib.Core.Bool.{true}
-use native.Mathlib.Omega.{arith}
 use lib.Dec.{ltb}
 use lib.ListN.{length}
 use Rattle.lists.specs.Lists.{chained, has, place}
-use Rattle.row_deletion.proofs.Offending.{offending, offending_start, offending_end, offending_past, offending_here, offending_less, offending_more}
+use Rattle.row_deletion.proofs.Offending.{offending}
 use Rattle.row_deletion.proofs.positions.first_deleted.Given as goal
 
 abbrev pub invariant-loop-i : goal.invariant-loop-i

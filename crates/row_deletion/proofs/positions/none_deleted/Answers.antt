@@ -1,5 +1,4 @@
 -- `none_deleted` meets its contract: where no place is found, none is deleted.
-use borrow.Author.Rules.{rules}
 use mathlib.Core.Path.{sym, ap, ◌∙◌}
 use mathlib.Core.Bool.{not}
 use Rattle.lists.proofs.Places.{is_at}

@@ -1,5 +1,4 @@
 -- `positions_fit` meets its contract: where the positions ascend, all are below the row count if the last is.
-use borrow.Author.Rules.{rules}
 use native.Mathlib.Omega.{arith}
 use Rattle.row_deletion.proofs.Fits.{fit_none, fit_some}
 use Rattle.row_deletion.proofs.positions.positions_fit.Goals as goal

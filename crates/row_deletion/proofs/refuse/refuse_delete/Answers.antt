@@ -1,7 +1,6 @@
 -- `refuse_delete` meets its contract: its tests, folded in the definition's order.
 use borrow.Author.Rules.{rules}
 use mathlib.Core.Path.{refl, ap, ◌∙◌}
-use native.Mathlib.Omega.{arith}
 use lib.Dec.{ltb}
 use borrow.Author.Tests.{not-false}
 use Rattle.lists.specs.Lists.{chained}

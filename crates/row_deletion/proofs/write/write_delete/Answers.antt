@@ -1,5 +1,4 @@
 -- `write_delete` meets its contract: the snapshot, the delete file and the positions that are written are those of the effect.
-use borrow.Author.Rules.{rules}
 use mathlib.Core.Path.{refl}
 use native.Mathlib.Omega.{arith}
 use Rattle.row_deletion.proofs.Effects.{positions_held_lem, positions_room, positions_merge, delete_stored}

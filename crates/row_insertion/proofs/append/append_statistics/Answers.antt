@@ -1,10 +1,7 @@
 -- `append_statistics` meets its contract: each turn writes the next record behind those before it.
-use borrow.Author.Rules.{rules}
-use Prim.Native.Nat.{◌-◌, ◌≤◌}
-use mathlib.Core.Path.{◌≡◌, refl, ◌∙◌}
+use mathlib.Core.Path.{refl, ◌∙◌}
 use native.Mathlib.Omega.{arith}
-use lib.ListN.{length}
-use Rattle.row_insertion.proofs.Appended.{all_laid, left_laid, laid_start, laid_next, laid_end}
+use Rattle.row_insertion.proofs.Appended.{laid_start, laid_next, laid_end}
 use Rattle.row_insertion.proofs.append.append_statistics.Goals as goal
 
 pub loop-i-init : goal.loop-i-init

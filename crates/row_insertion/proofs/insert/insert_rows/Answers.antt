@@ -1,5 +1,4 @@
 -- `insert_rows` keeps the promise: refused it leaves all as it was, accepted its writes are the effect and its counts those of the effect.
-use borrow.Author.Rules.{rules}
 use mathlib.Core.Path.{refl, ap, ◌∙◌}
 use Rattle.ducklake.specs.Calls.{place_of}
 use Rattle.call_laws.specs.Writes.{add_counts}

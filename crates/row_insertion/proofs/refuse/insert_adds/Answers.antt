@@ -1,5 +1,4 @@
 -- `insert_adds` meets its contract: the statistics are counted.
-use borrow.Author.Rules.{rules}
 use mathlib.Core.Path.{refl}
 use Rattle.row_insertion.proofs.refuse.insert_adds.Goals as goal
 

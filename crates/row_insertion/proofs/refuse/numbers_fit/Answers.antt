@@ -1,5 +1,4 @@
 -- `numbers_fit` meets its contract: the next snapshot is judged, and the table's next row number with so many rows.
-use borrow.Author.Rules.{rules}
 use mathlib.Core.Path.{ap, ap₂, ◌∙◌}
 use mathlib.Core.Bool.{◌&&◌}
 use Prim.Native.Nat.{◌+◌}

@@ -1,5 +1,4 @@
 -- `refuse_insert` meets its contract: its tests, folded in the definition's order.
-use borrow.Author.Rules.{rules}
 use mathlib.Core.Path.{ap, ◌∙◌}
 use borrow.Author.Tests.{not-false}
 use Rattle.ducklake.specs.Soundness.{snapshot_in_range}

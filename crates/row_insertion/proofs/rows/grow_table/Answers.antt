@@ -1,5 +1,4 @@
 -- `grow_table` meets its contract: ids ascend, so setting one word of the table that is found is what the definition does to them all.
-use borrow.Author.Rules.{rules}
 use mathlib.Core.Path.{ap, ◌∙◌}
 use native.Mathlib.Omega.{arith}
 use Rattle.row_insertion.proofs.Grown.{first-is, found_below, found_room, grown_there, grown_nowhere}

@@ -1,5 +1,4 @@
 -- `next_row_id` meets its contract: ids ascend, so the table that is found is the one of its id.
-use borrow.Author.Rules.{rules}
 use mathlib.Core.Path.{ap, ◌∙◌}
 use Rattle.row_insertion.proofs.Grown.{found_room, first-is}
 use Rattle.row_insertion.proofs.rows.next_row_id.Goals as goal

@@ -1,14 +1,10 @@
 -- `statistics_argument_fits` meets its contract: each turn passes the next column, and with it, where it is live, the next statistics given.
-use borrow.Author.Rules.{rules}
-use Prim.Native.Nat.{ℕ, ◌-◌, ◌≤◌}
-use mathlib.Core.Path.{◌≡◌, refl, sym, ◌∙◌}
-use mathlib.Core.List.{List}
+use mathlib.Core.Path.{refl, sym, ◌∙◌}
 use native.Mathlib.Nat.{lt_of_lt_of_le}
 use native.Mathlib.Omega.{arith}
 use Rattle.lists.proofs.Runs.{record_fits}
 use Rattle.layout.specs.Fields.{column_size}
-use Rattle.ducklake.specs.Arguments.{statistics_argument}
-use Rattle.soundness_statistics.proofs.FileStatistics.{judged, judged_skip, judged_short, judged_pass, judged_fail, judged_end}
+use Rattle.soundness_statistics.proofs.FileStatistics.{judged_skip, judged_short, judged_pass, judged_fail, judged_end}
 use Rattle.row_insertion.proofs.Fitting.{fitting_start, ragged}
 use Rattle.row_insertion.proofs.statistics.statistics_argument_fits.Goals as goal
 

@@ -1,5 +1,4 @@
 -- `write_insert` meets its contract: what is appended, and the table that has grown, are those of the effect.
-use borrow.Author.Rules.{rules}
 use Rattle.row_insertion.proofs.Effects.{insert_stored}
 use Rattle.row_insertion.proofs.write.write_insert.Goals as goal
 

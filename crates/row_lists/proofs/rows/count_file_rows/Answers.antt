@@ -1,5 +1,4 @@
 -- The deleted positions are distinct and below the record count: what is left is the difference.
-use borrow.Author.Rules.{rules}
 use Prim.Native.Nat.{◌-◌}
 use mathlib.Core.Path.{sym, ap, ap₂, ◌∙◌}
 use native.Mathlib.Omega.{arith}

@@ -1,9 +1,6 @@
 -- The loop adds up the rows of each file of the table.
-use borrow.Author.Rules.{rules}
-use Prim.Native.Nat.{◌≤◌, ◌-◌, ◌*◌}
 use native.Mathlib.Omega.{arith}
-use Rattle.layout.specs.Catalog.{record_count_limit}
-use Rattle.row_lists.proofs.RowLists.{file_located, Summing, summing_start, summing_pass, summing_fail, summing_end}
+use Rattle.row_lists.proofs.RowLists.{file_located, summing_start, summing_pass, summing_fail, summing_end}
 use Rattle.row_lists.proofs.rows.count_rows.Goals as goal
 
 pub loop-i-init : goal.loop-i-init

@@ -1,9 +1,7 @@
 -- The loop adds up the rows of each file of the table.
-use borrow.Author.Rules.{rules}
 use Prim.Native.Nat.{◌≤◌, ◌-◌, ◌*◌}
-use native.Mathlib.Omega.{arith}
 use Rattle.layout.specs.Catalog.{record_count_limit}
-use Rattle.row_lists.proofs.RowLists.{file_located, Summing, summing_start, summing_pass, summing_fail, summing_end}
+use Rattle.row_lists.proofs.RowLists.{Summing}
 use Rattle.row_lists.proofs.rows.count_rows.Given as goal
 
 abbrev pub invariant-loop-i : goal.invariant-loop-i

@@ -1,10 +1,8 @@
 -- One pass over the positions and over those deleted: a position is deleted just where it is the next of these.
-use borrow.Author.Rules.{rules}
-use Prim.Native.Nat.{◌-◌, ◌≤◌}
-use mathlib.Core.Path.{◌≡◌, refl}
+use mathlib.Core.Path.{refl}
 use native.Mathlib.Omega.{arith}
-use lib.ListN.{length, length-set}
-use Rattle.row_lists.proofs.Merges.{Filling, filling_start, filling_room, filling_kept, filling_gone, filling_end}
+use lib.ListN.{length-set}
+use Rattle.row_lists.proofs.Merges.{filling_start, filling_room, filling_kept, filling_gone, filling_end}
 use Rattle.row_lists.proofs.rows.fill_rows.Goals as goal
 
 pub loop-p-init : goal.loop-p-init

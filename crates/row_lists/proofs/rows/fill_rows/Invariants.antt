@@ -1,10 +1,8 @@
 -- One pass over the positions and over those deleted: a position is deleted just where it is the next of these.
-use borrow.Author.Rules.{rules}
 use Prim.Native.Nat.{◌-◌, ◌≤◌}
-use mathlib.Core.Path.{◌≡◌, refl}
-use native.Mathlib.Omega.{arith}
-use lib.ListN.{length, length-set}
-use Rattle.row_lists.proofs.Merges.{Filling, filling_start, filling_room, filling_kept, filling_gone, filling_end}
+use mathlib.Core.Path.{◌≡◌}
+use lib.ListN.{length}
+use Rattle.row_lists.proofs.Merges.{Filling}
 use Rattle.row_lists.proofs.rows.fill_rows.Given as goal
 
 abbrev pub invariant-loop-p : goal.invariant-loop-p

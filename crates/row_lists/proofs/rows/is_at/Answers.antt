@@ -1,5 +1,4 @@
 -- Past the last word p is none.
-use borrow.Author.Rules.{rules}
 use mathlib.Core.Path.{refl}
 use borrow.Author.Tests.{le-ltb, lt-ltb}
 use Rattle.row_lists.proofs.rows.is_at.Goals as goal

@@ -1,5 +1,4 @@
 -- `list_rows` keeps the promise: refused, or the answer or 3.
-use borrow.Author.Rules.{rules}
 use Rattle.readings.proofs.Judged.{rows_unanswered}
 use Rattle.readings.proofs.Promises.{reading_refused, reading_answered, reading_sound}
 use Rattle.row_lists.proofs.Lent.{only_tables}

@@ -1,5 +1,4 @@
 -- The delete files are found and their positions located before the rows are counted, and these are counted before any is written.
-use borrow.Author.Rules.{rules}
 use Prim.Native.Nat.{ℕ}
 use mathlib.Core.Path.{◌≡◌}
 use mathlib.Core.List.{[]}

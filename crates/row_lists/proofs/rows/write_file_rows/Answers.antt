@@ -1,5 +1,4 @@
 -- What was read of the data file, and its deleted positions, are what the rows are made of.
-use borrow.Author.Rules.{rules}
 use mathlib.Core.Path.{ap, ◌∙◌}
 use Rattle.row_lists.proofs.Merges.{rows_read, fit_read}
 use Rattle.row_lists.proofs.rows.write_file_rows.Goals as goal

@@ -1,10 +1,9 @@
 -- Each file's rows fill the part of the area that starts after the earlier rows.
-use borrow.Author.Rules.{rules}
-use Prim.Native.Nat.{◌≤◌, ◌-◌, ◌+◌}
-use mathlib.Core.Path.{◌≡◌, refl, ◌∙◌}
+use Prim.Native.Nat.{◌≤◌, ◌+◌}
+use mathlib.Core.Path.{refl, ◌∙◌}
 use native.Mathlib.Omega.{arith}
 use lib.ListN.{length}
-use Rattle.row_lists.proofs.RowLists.{file_located, part_filled, part_kept, part_length, Writing, writing_room, writing_pass, writing_fail, writing_end}
+use Rattle.row_lists.proofs.RowLists.{file_located, part_filled, part_kept, part_length, writing_room, writing_pass, writing_fail, writing_end}
 use Rattle.row_lists.proofs.rows.write_rows.Goals as goal
 
 pub loop-i-init : goal.loop-i-init

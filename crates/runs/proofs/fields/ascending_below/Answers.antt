@@ -1,5 +1,5 @@
 -- `ascending_below` meets its contract: the last word is the highest, and no word at all is below any limit.
-use Rattle.std.proofs.Common.{ltb, sym, ap, ◌∙◌, arith, rules}
+use Rattle.std.proofs.Common.{ltb, sym, ap, ◌∙◌, arith}
 use Rattle.lists.proofs.Loops.{all_start, all_end}
 use Rattle.lists.proofs.Runs.{record_fits}
 use Rattle.runs.proofs.Places.{last_below}

@@ -1,5 +1,5 @@
 -- `count_below` meets its contract: where the word at `near` is not below x, and that before it, if there is one, is, so many are.
-use Rattle.std.proofs.Common.{arith, rules}
+use Rattle.std.proofs.Common.{arith}
 use Rattle.lists.proofs.Runs.{record_fits}
 use Rattle.runs.proofs.Places.{none_below, parted_below}
 use Rattle.runs.proofs.fields.count_below.Goals as goal

@@ -1,9 +1,8 @@
 -- `count_below_from` meets its contract: wherever it looks, the search keeps the count of what is below x between its two ends.
-use Rattle.std.proofs.Common.{◌≡◌, ◌-◌, ◌≤◌, ltb, sym, ◌∙◌, arith, rules}
+use Rattle.std.proofs.Common.{◌≡◌, ◌-◌, ◌≤◌, ltb}
 use Rattle.lists.specs.Lists.{count}
 use Rattle.lists.specs.Runs.{field, fields}
-use Rattle.lists.proofs.Runs.{record_fits}
-use Rattle.lists.proofs.Search.{below, below_start, below_up, below_down, below_end}
+use Rattle.lists.proofs.Search.{below}
 use Rattle.runs.proofs.fields.count_below_from.Given as goal
 
 abbrev pub invariant-loop-lo : goal.invariant-loop-lo

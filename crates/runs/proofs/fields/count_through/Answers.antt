@@ -1,5 +1,5 @@
 -- `count_through` meets its contract: where the word at `near` is at most x and the next one is not, so many are.
-use Rattle.std.proofs.Common.{arith, rules}
+use Rattle.std.proofs.Common.{arith}
 use Rattle.lists.proofs.Runs.{record_fits}
 use Rattle.runs.proofs.Places.{inside, parted_through}
 use Rattle.runs.proofs.fields.count_through.Goals as goal

@@ -1,11 +1,8 @@
 -- `count_through_from` meets its contract: at most x is below x + 1, and wherever it looks the search keeps the count of what is below between its two ends.
-use Rattle.std.proofs.Common.{◌≡◌, ◌+◌, ◌-◌, ◌≤◌, leb, sym, ◌∙◌, arith, rules}
+use Rattle.std.proofs.Common.{◌≡◌, ◌+◌, ◌-◌, ◌≤◌, leb}
 use Rattle.lists.specs.Lists.{count}
 use Rattle.lists.specs.Runs.{field, fields}
-use Rattle.lists.proofs.Counts.{count_ext}
-use Rattle.lists.proofs.Tests.{ltb_suc}
-use Rattle.lists.proofs.Runs.{record_fits}
-use Rattle.lists.proofs.Search.{below, below_start, below_up, below_down, below_end}
+use Rattle.lists.proofs.Search.{below}
 use Rattle.runs.proofs.fields.count_through_from.Given as goal
 
 abbrev pub invariant-loop-lo : goal.invariant-loop-lo

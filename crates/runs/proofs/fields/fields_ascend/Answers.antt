@@ -1,7 +1,5 @@
 -- `fields_ascend` meets its contract: the loop tests each word against the next, as the definition does.
-use Rattle.std.proofs.Common.{◌≡◌, ◌-◌, ◌≤◌, ltb, sym, ◌∙◌, arith, rules, le-ltb, lt-ltb}
-use Rattle.lists.specs.Lists.{chained}
-use Rattle.lists.specs.Runs.{from, field, fields}
+use Rattle.std.proofs.Common.{sym, ◌∙◌, arith, le-ltb, lt-ltb}
 use Rattle.lists.proofs.Loops.{chained_start, chained_pass, chained_fail, chained_end}
 use Rattle.lists.proofs.Runs.{record_fits, count_fits}
 use Rattle.runs.proofs.fields.fields_ascend.Goals as goal

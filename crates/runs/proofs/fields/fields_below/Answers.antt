@@ -1,7 +1,5 @@
 -- `fields_below` meets its contract: the loop tests each word, as the definition does.
-use Rattle.std.proofs.Common.{◌≡◌, ◌-◌, ◌≤◌, ltb, sym, ◌∙◌, arith, rules, le-ltb, lt-ltb}
-use Rattle.lists.specs.Lists.{all}
-use Rattle.lists.specs.Runs.{from, field, fields}
+use Rattle.std.proofs.Common.{sym, ◌∙◌, arith, le-ltb, lt-ltb}
 use Rattle.lists.proofs.Loops.{all_start, all_pass, all_fail, all_end}
 use Rattle.lists.proofs.Runs.{record_fits}
 use Rattle.runs.proofs.fields.fields_below.Goals as goal

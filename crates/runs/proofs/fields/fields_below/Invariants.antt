@@ -1,9 +1,7 @@
 -- `fields_below` meets its contract: the loop tests each word, as the definition does.
-use Rattle.std.proofs.Common.{◌≡◌, ◌-◌, ◌≤◌, ltb, sym, ◌∙◌, arith, rules, le-ltb, lt-ltb}
+use Rattle.std.proofs.Common.{◌≡◌, ◌-◌, ◌≤◌, ltb}
 use Rattle.lists.specs.Lists.{all}
 use Rattle.lists.specs.Runs.{from, field, fields}
-use Rattle.lists.proofs.Loops.{all_start, all_pass, all_fail, all_end}
-use Rattle.lists.proofs.Runs.{record_fits}
 use Rattle.runs.proofs.fields.fields_below.Given as goal
 
 abbrev pub invariant-loop-i : goal.invariant-loop-i

@@ -1,9 +1,7 @@
 -- `fields_between` meets its contract: the loop tests each word as the definition does, and stops at the first that fails.
-use Rattle.std.proofs.Common.{◌≡◌, ℕ, ◌-◌, ◌≤◌, Bool, ◌&&◌, leb, sym, ap, ◌∙◌, arith, rules}
+use Rattle.std.proofs.Common.{◌≡◌, ℕ, ◌-◌, ◌≤◌, Bool, ◌&&◌, leb}
 use Rattle.lists.specs.Lists.{all}
 use Rattle.lists.specs.Runs.{from, field, fields}
-use Rattle.lists.proofs.Loops.{all_start, all_passed, all_failed, all_end}
-use Rattle.lists.proofs.Runs.{record_fits}
 use Rattle.runs.proofs.fields.fields_between.Given as goal
 
 abbrev pub between : ℕ → ℕ → ℕ → Bool

@@ -1,8 +1,7 @@
 -- `find_from` meets its contract: what stands before the two ends of the search is below x, and what stands behind them is above.
-use Rattle.std.proofs.Common.{◌-◌, sym, ◌∙◌, arith, rules}
-use Rattle.lists.specs.Runs.{field}
+use Rattle.std.proofs.Common.{sym, ◌∙◌, arith}
 use Rattle.lists.proofs.Runs.{record_fits}
-use Rattle.runs.proofs.Places.{Between, up, down, here, nowhere}
+use Rattle.runs.proofs.Places.{up, down, here, nowhere}
 use Rattle.runs.proofs.fields.find_from.Goals as goal
 
 pub loop-lo-init : goal.loop-lo-init

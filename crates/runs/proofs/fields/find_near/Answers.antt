@@ -1,5 +1,5 @@
 -- `find_near` meets its contract: a word that is x is the only one, wherever it is seen.
-use Rattle.std.proofs.Common.{sym, ◌∙◌, rules}
+use Rattle.std.proofs.Common.{sym, ◌∙◌}
 use Rattle.lists.proofs.Runs.{record_fits}
 use Rattle.runs.proofs.Places.{here}
 use Rattle.runs.proofs.fields.find_near.Goals as goal

@@ -1,5 +1,5 @@
 -- `set_flag` meets its contract: one byte is set to the bit.
-use Rattle.std.proofs.Common.{set, sym, ap, rules}
+use Rattle.std.proofs.Common.{set, sym, ap}
 use Rattle.lists.specs.Lists.{bit}
 use Rattle.runs.proofs.flags.set_flag.Goals as goal
 

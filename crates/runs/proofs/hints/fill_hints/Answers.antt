@@ -1,5 +1,5 @@
 -- `fill_hints` meets its contract: every look is within its run.
-use Rattle.std.proofs.Common.{◌≡◌, ◌≤◌, length, refl, arith, rules}
+use Rattle.std.proofs.Common.{refl, arith}
 use Rattle.lists.proofs.Runs.{record_fits}
 use Rattle.runs.proofs.hints.fill_hints.Goals as goal
 

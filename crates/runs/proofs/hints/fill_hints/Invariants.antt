@@ -1,6 +1,5 @@
 -- `fill_hints` meets its contract: every look is within its run.
-use Rattle.std.proofs.Common.{◌≡◌, ◌≤◌, length, refl, arith, rules}
-use Rattle.lists.proofs.Runs.{record_fits}
+use Rattle.std.proofs.Common.{◌≡◌, ◌≤◌, length}
 use Rattle.runs.proofs.hints.fill_hints.Given as goal
 
 abbrev pub invariant-loop-i : goal.invariant-loop-i

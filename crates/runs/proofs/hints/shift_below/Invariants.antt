@@ -1,5 +1,5 @@
 -- `shift_below` meets its contract: the loop ends below the width of a word.
-use Rattle.std.proofs.Common.{◌-◌, ◌<◌, arith, rules}
+use Rattle.std.proofs.Common.{◌-◌, ◌<◌}
 use Rattle.runs.proofs.hints.shift_below.Given as goal
 
 abbrev pub invariant-loop-shift : goal.invariant-loop-shift

@@ -1,6 +1,5 @@
 -- `clear_bytes` meets its contract: each turn writes one zero more.
-use Rattle.std.proofs.Common.{◌≡◌, ◌-◌, ◌≤◌, length, replicate, sym, ◌∙◌, arith, length-set, rules}
-use Rattle.lists.specs.Runs.{overwrite}
+use Rattle.std.proofs.Common.{sym, ◌∙◌, arith, length-set}
 use Rattle.lists.proofs.Loops.{clear_next, clear_end}
 use Rattle.runs.proofs.kept_bytes.clear_bytes.Goals as goal
 

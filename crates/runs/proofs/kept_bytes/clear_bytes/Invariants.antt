@@ -1,7 +1,6 @@
 -- `clear_bytes` meets its contract: each turn writes one zero more.
-use Rattle.std.proofs.Common.{◌≡◌, ◌-◌, ◌≤◌, length, replicate, sym, ◌∙◌, arith, length-set, rules}
+use Rattle.std.proofs.Common.{◌≡◌, ◌-◌, ◌≤◌, length, replicate}
 use Rattle.lists.specs.Runs.{overwrite}
-use Rattle.lists.proofs.Loops.{clear_next, clear_end}
 use Rattle.runs.proofs.kept_bytes.clear_bytes.Given as goal
 
 abbrev pub invariant-loop-j : goal.invariant-loop-j

@@ -1,6 +1,6 @@
 -- `keep_places` meets its contract: a place that stays is moved behind those kept before; what is left at the end is cleared.
-use Rattle.std.proofs.Common.{◌-◌, sym, ◌∙◌, arith, rules}
-use Rattle.runs.proofs.Keeping.{Keeping, keeping_start, row_fits, rows_fit, keeping_pass, keeping_fail, keeping_end}
+use Rattle.std.proofs.Common.{sym, ◌∙◌, arith}
+use Rattle.runs.proofs.Keeping.{keeping_start, row_fits, rows_fit, keeping_pass, keeping_fail, keeping_end}
 use Rattle.runs.proofs.kept_bytes.keep_places.Goals as goal
 
 pub loop-i-init : goal.loop-i-init

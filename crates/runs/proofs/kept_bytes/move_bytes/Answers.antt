@@ -1,6 +1,6 @@
 -- `move_bytes` meets its contract: each turn moves one byte down, and what is still to be moved lies above it.
-use Rattle.std.proofs.Common.{◌≡◌, ◌-◌, ◌≤◌, length, sym, refl, ◌∙◌, arith, length-set, rules}
-use Rattle.lists.proofs.Writes.{moved, moved_start, moved_next, moved_end}
+use Rattle.std.proofs.Common.{sym, refl, ◌∙◌, arith, length-set}
+use Rattle.lists.proofs.Writes.{moved_start, moved_next, moved_end}
 use Rattle.runs.proofs.kept_bytes.move_bytes.Goals as goal
 
 pub loop-b-init : goal.loop-b-init

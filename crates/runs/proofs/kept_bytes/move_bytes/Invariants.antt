@@ -1,6 +1,6 @@
 -- `move_bytes` meets its contract: each turn moves one byte down, and what is still to be moved lies above it.
-use Rattle.std.proofs.Common.{◌≡◌, ◌-◌, ◌≤◌, length, sym, refl, ◌∙◌, arith, length-set, rules}
-use Rattle.lists.proofs.Writes.{moved, moved_start, moved_next, moved_end}
+use Rattle.std.proofs.Common.{◌≡◌, ◌-◌, ◌≤◌, length}
+use Rattle.lists.proofs.Writes.{moved}
 use Rattle.runs.proofs.kept_bytes.move_bytes.Given as goal
 
 abbrev pub invariant-loop-b : goal.invariant-loop-b

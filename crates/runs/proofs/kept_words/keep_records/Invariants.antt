@@ -1,6 +1,6 @@
 -- `keep_records` meets its contract: a record that stays is moved behind those kept before; what is left at the end is cleared.
-use Rattle.std.proofs.Common.{◌-◌, sym, ◌∙◌, arith, rules}
-use Rattle.runs.proofs.Keeping.{Keeping, keeping_start, row_fits, rows_fit, keeping_pass, keeping_fail, keeping_end}
+use Rattle.std.proofs.Common.{◌-◌}
+use Rattle.runs.proofs.Keeping.{Keeping}
 use Rattle.runs.proofs.kept_words.keep_records.Given as goal
 
 abbrev pub invariant-loop-i : goal.invariant-loop-i

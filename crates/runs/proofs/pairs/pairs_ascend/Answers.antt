@@ -1,8 +1,7 @@
 -- `pairs_ascend` meets its contract: the loop tests each record with the next, as the definition does.
-use Rattle.std.proofs.Common.{◌≡◌, ℕ, ◌-◌, ◌≤◌, sym, refl, ◌∙◌, arith, rules}
+use Rattle.std.proofs.Common.{◌≡◌, ℕ, sym, refl, ◌∙◌, arith}
 use borrow.Author.Tests.{not-true, not-false}
-use Rattle.lists.specs.Lists.{chained, before}
-use Rattle.lists.specs.Runs.{from, pair_at, pairs}
+use Rattle.lists.specs.Lists.{before}
 use Rattle.lists.proofs.Loops.{chained_start, chained_pass, chained_fail, chained_end}
 use Rattle.lists.proofs.Runs.{record_fits, count_fits}
 use Rattle.runs.proofs.pairs.pairs_ascend.Goals as goal

@@ -1,10 +1,7 @@
 -- `pairs_ascend` meets its contract: the loop tests each record with the next, as the definition does.
-use Rattle.std.proofs.Common.{◌≡◌, ℕ, ◌-◌, ◌≤◌, sym, refl, ◌∙◌, arith, rules}
-use borrow.Author.Tests.{not-true, not-false}
+use Rattle.std.proofs.Common.{◌≡◌, ◌-◌, ◌≤◌}
 use Rattle.lists.specs.Lists.{chained, before}
 use Rattle.lists.specs.Runs.{from, pair_at, pairs}
-use Rattle.lists.proofs.Loops.{chained_start, chained_pass, chained_fail, chained_end}
-use Rattle.lists.proofs.Runs.{record_fits, count_fits}
 use Rattle.runs.proofs.pairs.pairs_ascend.Given as goal
 
 abbrev pub invariant-loop-i : goal.invariant-loop-i

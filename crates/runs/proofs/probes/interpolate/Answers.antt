@@ -1,5 +1,5 @@
 -- `interpolate` is safe: numbers that are not far apart, and not so many, have a product that fits.
-use Rattle.std.proofs.Common.{◌-◌, ◌≤◌, mul-le-mul_right, arith, rules}
+use Rattle.std.proofs.Common.{◌-◌, ◌≤◌, mul-le-mul_right, arith}
 use Rattle.lists.proofs.Runs.{record_fits}
 use Rattle.runs.proofs.probes.interpolate.Goals as goal
 

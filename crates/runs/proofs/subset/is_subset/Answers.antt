@@ -1,7 +1,6 @@
 -- `is_subset` meets its contract: both lists ascend, so a word of b that is passed over is no word of a that is still to come.
-use Rattle.std.proofs.Common.{◌≡◌, ◌+◌, ◌-◌, ◌≤◌, length, sym, ◌∙◌, arith, rules}
-use Rattle.lists.specs.Lists.{all, has}
-use Rattle.lists.proofs.Subsets.{inside, inside_start, inside_past, inside_less, inside_same, inside_more, inside_end}
+use Rattle.std.proofs.Common.{sym, ◌∙◌, arith}
+use Rattle.lists.proofs.Subsets.{inside_start, inside_past, inside_less, inside_same, inside_more, inside_end}
 use Rattle.runs.proofs.subset.is_subset.Goals as goal
 
 pub loop-i-init : goal.loop-i-init

@@ -1,8 +1,7 @@
 -- `set_where` meets its contract: a turn sets the word that the definition sets in the record, or leaves the record as the definition does.
-use Rattle.std.proofs.Common.{◌≡◌, ◌-◌, ◌*◌, ◌≤◌, length, sym, refl, ap, ◌∙◌, arith, length-set, rules}
+use Rattle.std.proofs.Common.{◌≡◌, ◌-◌, ◌≤◌, length}
 use Rattle.lists.specs.Runs.{set_where, each_record}
-use Rattle.lists.proofs.Runs.{record_fits}
-use Rattle.lists.proofs.Updates.{changing, changing_start, changing_end, set_next, keep_next}
+use Rattle.lists.proofs.Updates.{changing}
 use Rattle.runs.proofs.update.set_where.Given as goal
 
 abbrev pub invariant-loop-i : goal.invariant-loop-i

@@ -1,10 +1,8 @@
 -- From the last delete file to the first: what has been found is the first one, for each data file, of those passed.
-use borrow.Author.Rules.{rules}
-use Prim.Native.Nat.{◌-◌, ◌≤◌}
-use mathlib.Core.Path.{◌≡◌, refl, ap, ◌∙◌}
+use Prim.Native.Nat.{◌-◌}
+use mathlib.Core.Path.{refl, ap, ◌∙◌}
 use native.Mathlib.Omega.{arith}
-use lib.ListN.{length}
-use Rattle.scans.proofs.LiveDeletes.{FoundFrom, found_start, found_live, found_ended, found_end}
+use Rattle.scans.proofs.LiveDeletes.{found_start, found_live, found_ended, found_end}
 use Rattle.scans.proofs.deletions.find_live_delete_files.Goals as goal
 
 pub fill_hints-scale-requires : goal.fill_hints-scale-requires

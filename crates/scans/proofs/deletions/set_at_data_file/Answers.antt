@@ -1,5 +1,4 @@
 -- The number is written where the data file was found.
-use borrow.Author.Rules.{rules}
 use mathlib.Core.Path.{sym, ap, ◌∙◌}
 use native.Mathlib.Omega.{arith}
 use Rattle.lists.proofs.Places.{found_tells}

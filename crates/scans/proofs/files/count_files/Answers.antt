@@ -1,12 +1,9 @@
 -- The loop counts the data files that pass both tests.
-use borrow.Author.Rules.{rules}
-use Prim.Native.Nat.{◌≤◌, ◌-◌}
-use mathlib.Core.Path.{◌≡◌, sym, ap, ◌∙◌}
+use mathlib.Core.Path.{sym, ap, ◌∙◌}
 use native.Mathlib.Omega.{arith}
 use lib.ListN.{length}
-use Rattle.lists.proofs.Loops.{counted, counted_start, counted_pass, counted_fail, counted_end}
-use Rattle.layout.specs.Words.{data_file_at, data_files_in, statistics_in}
-use Rattle.scans.specs.Filters.{is_read, files_read}
+use Rattle.lists.proofs.Loops.{counted_start, counted_pass, counted_fail, counted_end}
+use Rattle.layout.specs.Words.{data_files_in, statistics_in}
 use Rattle.scans.proofs.FileLists.{read_both}
 use Rattle.scans.proofs.files.count_files.Goals as goal
 

@@ -1,13 +1,10 @@
 -- The loop counts the data files that pass both tests.
-use borrow.Author.Rules.{rules}
 use Prim.Native.Nat.{◌≤◌, ◌-◌}
-use mathlib.Core.Path.{◌≡◌, sym, ap, ◌∙◌}
-use native.Mathlib.Omega.{arith}
+use mathlib.Core.Path.{◌≡◌}
 use lib.ListN.{length}
-use Rattle.lists.proofs.Loops.{counted, counted_start, counted_pass, counted_fail, counted_end}
+use Rattle.lists.proofs.Loops.{counted}
 use Rattle.layout.specs.Words.{data_file_at, data_files_in, statistics_in}
 use Rattle.scans.specs.Filters.{is_read, files_read}
-use Rattle.scans.proofs.FileLists.{read_both}
 use Rattle.scans.proofs.files.count_files.Given as goal
 
 abbrev pub invariant-loop-i : goal.invariant-loop-i

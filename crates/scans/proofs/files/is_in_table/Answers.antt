@@ -1,5 +1,4 @@
 -- The test is that of the definition: of a data file the table and the life are looked at.
-use borrow.Author.Rules.{rules}
 use mathlib.Core.Path.{ap, ap₂, ◌∙◌}
 use mathlib.Core.Bool.{◌&&◌}
 use lib.Dec.{eqb}

@@ -1,5 +1,4 @@
 -- The filter is asked only of a file of the table that is live.
-use borrow.Author.Rules.{rules}
 use mathlib.Core.Path.{sym, ap}
 use Rattle.lists.proofs.Tests.{passed, failed}
 use Rattle.layout.specs.Words.{data_file_at, statistics_in}

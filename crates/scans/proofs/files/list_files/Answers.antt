@@ -1,11 +1,10 @@
 -- The loop lays the two words of each file that is read behind those of the files before it.
-use borrow.Author.Rules.{rules}
-use Prim.Native.Nat.{◌≤◌, ◌+◌, ◌-◌}
+use Prim.Native.Nat.{◌≤◌, ◌+◌}
 use mathlib.Core.Path.{refl}
 use native.Mathlib.Omega.{arith}
 use lib.ListN.{length}
 use Rattle.scans.specs.Filters.{listed_size}
-use Rattle.scans.proofs.FileLists.{Listing, place-within, listed_is, listing_room, listing_pass, listing_fail, listing_end}
+use Rattle.scans.proofs.FileLists.{place-within, listed_is, listing_room, listing_pass, listing_fail, listing_end}
 use Rattle.scans.proofs.files.list_files.Goals as goal
 
 pub loop-i-init : goal.loop-i-init
@@ -20,14 +19,14 @@ pub write_listed-requires : goal.write_listed-requires
 -- the next file that is read has room behind those laid
 write_listed-requires c =
     let room : c.loop-i.k + listed_size ≤ length c.loop-i.area =
-        listing_room _ _ _ _ _ _ _ _ _ c.loop-i.invariant.1 c.loop-i-test.true c.is_read-read.ensures c.if-read.true in
+    listing_room _ _ _ _ _ _ _ _ _ c.loop-i.invariant.1 c.loop-i-test.true c.is_read-read.ensures c.if-read.true in
     let p = c.requires.files_selectable in
     (omega (arith, p.0.lent), omega (arith, p.2, place-within _ _ _ _ _ _ p.1 _ c.loop-i-test.true), room)
 
 pub overflow_add-k : goal.overflow_add-k
 overflow_add-k c =
     let room : c.loop-i.k + listed_size ≤ length c.loop-i.area =
-        listing_room _ _ _ _ _ _ _ _ _ c.loop-i.invariant.1 c.loop-i-test.true c.is_read-read.ensures c.if-read.true in
+    listing_room _ _ _ _ _ _ _ _ _ c.loop-i.invariant.1 c.loop-i-test.true c.is_read-read.ensures c.if-read.true in
     omega (arith, room, c.loop-i.invariant.1.long)
 
 pub loop-i-preserved-then-read : goal.loop-i-preserved-then-read

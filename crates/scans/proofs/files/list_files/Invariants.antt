@@ -1,11 +1,6 @@
 -- The loop lays the two words of each file that is read behind those of the files before it.
-use borrow.Author.Rules.{rules}
-use Prim.Native.Nat.{◌≤◌, ◌+◌, ◌-◌}
-use mathlib.Core.Path.{refl}
-use native.Mathlib.Omega.{arith}
-use lib.ListN.{length}
-use Rattle.scans.specs.Filters.{listed_size}
-use Rattle.scans.proofs.FileLists.{Listing, place-within, listed_is, listing_room, listing_pass, listing_fail, listing_end}
+use Prim.Native.Nat.{◌≤◌, ◌-◌}
+use Rattle.scans.proofs.FileLists.{Listing}
 use Rattle.scans.proofs.files.list_files.Given as goal
 
 abbrev pub invariant-loop-i : goal.invariant-loop-i

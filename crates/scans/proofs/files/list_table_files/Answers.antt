@@ -1,5 +1,4 @@
 -- `list_table_files` keeps the promise: refused, or the answer or 3.
-use borrow.Author.Rules.{rules}
 use Rattle.readings.proofs.Promises.{reading_refused, reading_answered, reading_sound}
 use Rattle.scans.proofs.Answers.{files_answer}
 use Rattle.scans.proofs.Lent.{only_tables}

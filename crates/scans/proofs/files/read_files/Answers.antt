@@ -1,5 +1,4 @@
 -- The length is twice the number of files, and the delete files are found before the list is laid.
-use borrow.Author.Rules.{rules}
 use Prim.Native.Nat.{ℕ}
 use mathlib.Core.Path.{◌≡◌}
 use mathlib.Core.List.{[]}

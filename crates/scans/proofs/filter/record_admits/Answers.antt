@@ -1,5 +1,4 @@
 -- The test is that of the definition, over the signed numbers that the words stand for.
-use borrow.Author.Rules.{rules}
 use mathlib.Core.Path.{◌∙◌}
 use mir.Facts.{to_z-of_z}
 use mir.Syntax.{w64}

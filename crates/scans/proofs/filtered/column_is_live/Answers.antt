@@ -1,11 +1,6 @@
 -- The columns of a table stand together: one of that id that is live is among them or nowhere.
-use borrow.Author.Rules.{rules}
-use Prim.Native.Nat.{ℕ, ◌≤◌, ◌-◌}
-use mathlib.Core.Path.{◌≡◌, refl, sym, ◌∙◌}
-use mathlib.Core.List.{List}
+use mathlib.Core.Path.{refl, sym, ◌∙◌}
 use native.Mathlib.Omega.{arith}
-use Rattle.lists.specs.Lists.{any}
-use Rattle.lists.specs.Runs.{from}
 use Rattle.layout.specs.Words.{column_at}
 use Rattle.scans.proofs.Columns.{is_column, column_block, column_tested}
 use Rattle.scans.proofs.Statistics.{any_here, any_past, any_over}

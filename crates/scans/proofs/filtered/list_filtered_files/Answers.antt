@@ -1,5 +1,4 @@
 -- `list_filtered_files` keeps the promise: refused, or the answer or 3.
-use borrow.Author.Rules.{rules}
 use mir.Facts.{to_z-of_z}
 use Rattle.readings.proofs.Promises.{reading_refused, reading_answered, reading_sound}
 use Rattle.scans.proofs.Answers.{filtered_answer}

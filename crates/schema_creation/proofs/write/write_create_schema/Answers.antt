@@ -1,5 +1,4 @@
 -- `write_create_schema` meets its contract: the snapshot and the schema that are appended are those of the effect.
-use borrow.Author.Rules.{rules}
 use Rattle.schema_creation.proofs.Effects.{create_schema_stored}
 use Rattle.schema_creation.proofs.write.write_create_schema.Goals as goal
 

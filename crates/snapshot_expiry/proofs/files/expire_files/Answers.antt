@@ -1,5 +1,4 @@
 -- `expire_files` meets its contract: each table is read before what it is needed for is written.
-use borrow.Author.Rules.{rules}
 use Rattle.snapshot_expiry.proofs.files.expire_files.Goals as goal
 
 pub expire_records-d-requires : goal.expire_records-d-requires

@@ -1,6 +1,5 @@
 -- `count_hashes` meets its contract: at every turn the hashes so far are counted.
-use Rattle.std.proofs.Common.{◌≡◌, ◌-◌, ◌<◌, ◌≤◌, length, get_or, take, refl, arith, length-set, take_all, rules}
-use Rattle.sorting.specs.Colliding.{Counted}
+use Rattle.std.proofs.Common.{◌<◌, length, get_or, refl, arith, length-set, take_all}
 use Rattle.sorting.proofs.Collisions.{counted_next, counted_full, hash_in}
 use Rattle.sorting.proofs.colliding.count_hashes.Goals as goal
 

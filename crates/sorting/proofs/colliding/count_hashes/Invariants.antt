@@ -1,7 +1,6 @@
 -- `count_hashes` meets its contract: at every turn the hashes so far are counted.
-use Rattle.std.proofs.Common.{◌≡◌, ◌-◌, ◌<◌, ◌≤◌, length, get_or, take, refl, arith, length-set, take_all, rules}
+use Rattle.std.proofs.Common.{◌≡◌, ◌-◌, ◌≤◌, length, take}
 use Rattle.sorting.specs.Colliding.{Counted}
-use Rattle.sorting.proofs.Collisions.{counted_next, counted_full, hash_in}
 use Rattle.sorting.proofs.colliding.count_hashes.Given as goal
 
 abbrev pub invariant-loop-i : goal.invariant-loop-i

@@ -1,7 +1,6 @@
 -- `hash_at` meets its contract: the digest goes on word by word.
-use Rattle.std.proofs.Common.{◌≡◌, ◌-◌, sym, refl, ap, ◌∙◌, rules}
-use Rattle.lists.specs.Runs.{from, field}
-use Rattle.sorting.specs.Colliding.{prefix_at, digest, hashed}
+use Rattle.std.proofs.Common.{sym, refl, ap, ◌∙◌}
+use Rattle.sorting.specs.Colliding.{hashed}
 use Rattle.sorting.proofs.Collisions.{digest_next, digest_end}
 use Rattle.sorting.proofs.colliding.hash_at.Goals as goal
 

@@ -1,8 +1,7 @@
 -- `hash_at` meets its contract: the digest goes on word by word.
-use Rattle.std.proofs.Common.{◌≡◌, ◌-◌, sym, refl, ap, ◌∙◌, rules}
+use Rattle.std.proofs.Common.{◌≡◌, ◌-◌}
 use Rattle.lists.specs.Runs.{from, field}
-use Rattle.sorting.specs.Colliding.{prefix_at, digest, hashed}
-use Rattle.sorting.proofs.Collisions.{digest_next, digest_end}
+use Rattle.sorting.specs.Colliding.{prefix_at, digest}
 use Rattle.sorting.proofs.colliding.hash_at.Given as goal
 
 abbrev pub invariant-loop-k : goal.invariant-loop-k

@@ -1,10 +1,8 @@
 -- `hash_fields` meets its contract: the hash of each record is written at its place.
-use Rattle.std.proofs.Common.{◌≡◌, ◌-◌, ◌%◌, ◌≤◌, map, length, sym, ap, ◌∙◌, arith, length-set, rules}
-use Rattle.lists.specs.Lists.{range}
-use Rattle.lists.specs.Runs.{overwrite}
+use Rattle.std.proofs.Common.{◌%◌, sym, ap, ◌∙◌, arith, length-set, rules}
 use Rattle.lists.proofs.Runs.{record_fits}
-use Rattle.sorting.specs.Colliding.{hash_limit, field_hash}
-use Rattle.sorting.proofs.Collisions.{placed, placed_start, placed_next, placed_end}
+use Rattle.sorting.specs.Colliding.{hash_limit}
+use Rattle.sorting.proofs.Collisions.{placed_start, placed_next, placed_end}
 use Rattle.sorting.proofs.colliding.hash_fields.Goals as goal
 
 pub loop-i-init : goal.loop-i-init

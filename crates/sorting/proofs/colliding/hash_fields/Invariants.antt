@@ -1,10 +1,9 @@
 -- `hash_fields` meets its contract: the hash of each record is written at its place.
-use Rattle.std.proofs.Common.{◌≡◌, ◌-◌, ◌%◌, ◌≤◌, map, length, sym, ap, ◌∙◌, arith, length-set, rules}
+use Rattle.std.proofs.Common.{◌≡◌, ◌-◌, ◌≤◌, map, length}
 use Rattle.lists.specs.Lists.{range}
 use Rattle.lists.specs.Runs.{overwrite}
-use Rattle.lists.proofs.Runs.{record_fits}
-use Rattle.sorting.specs.Colliding.{hash_limit, field_hash}
-use Rattle.sorting.proofs.Collisions.{placed, placed_start, placed_next, placed_end}
+use Rattle.sorting.specs.Colliding.{field_hash}
+use Rattle.sorting.proofs.Collisions.{placed}
 use Rattle.sorting.proofs.colliding.hash_fields.Given as goal
 
 abbrev pub invariant-loop-i : goal.invariant-loop-i

@@ -1,10 +1,7 @@
 -- `hash_pairs` meets its contract: the hash of each record is written at its place.
-use Rattle.std.proofs.Common.{◌≡◌, ◌-◌, ◌≤◌, map, length, sym, ◌∙◌, arith, length-set, rules}
-use Rattle.lists.specs.Lists.{range}
-use Rattle.lists.specs.Runs.{overwrite}
+use Rattle.std.proofs.Common.{sym, ◌∙◌, arith, length-set, rules}
 use Rattle.lists.proofs.Runs.{record_fits}
-use Rattle.sorting.specs.Colliding.{pair_hash}
-use Rattle.sorting.proofs.Collisions.{digest_pair, placed, placed_start, placed_next, placed_end}
+use Rattle.sorting.proofs.Collisions.{digest_pair, placed_start, placed_next, placed_end}
 use Rattle.sorting.proofs.colliding.hash_pairs.Goals as goal
 
 pub loop-i-init : goal.loop-i-init

@@ -1,10 +1,9 @@
 -- `hash_pairs` meets its contract: the hash of each record is written at its place.
-use Rattle.std.proofs.Common.{◌≡◌, ◌-◌, ◌≤◌, map, length, sym, ◌∙◌, arith, length-set, rules}
+use Rattle.std.proofs.Common.{◌≡◌, ◌-◌, ◌≤◌, map, length}
 use Rattle.lists.specs.Lists.{range}
 use Rattle.lists.specs.Runs.{overwrite}
-use Rattle.lists.proofs.Runs.{record_fits}
 use Rattle.sorting.specs.Colliding.{pair_hash}
-use Rattle.sorting.proofs.Collisions.{digest_pair, placed, placed_start, placed_next, placed_end}
+use Rattle.sorting.proofs.Collisions.{placed}
 use Rattle.sorting.proofs.colliding.hash_pairs.Given as goal
 
 abbrev pub invariant-loop-i : goal.invariant-loop-i

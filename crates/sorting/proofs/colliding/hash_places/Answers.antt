@@ -1,8 +1,7 @@
 -- `hash_places` meets its contract: the hash of each place is written in its turn.
-use Rattle.std.proofs.Common.{◌≡◌, ◌-◌, ◌≤◌, length, sym, ◌∙◌, arith, length-set, rules}
-use Rattle.sorting.specs.Colliding.{hash_at}
+use Rattle.std.proofs.Common.{sym, ◌∙◌, arith, length-set}
 use Rattle.sorting.proofs.KeyOrder.{keyed_at_lem}
-use Rattle.sorting.proofs.Collisions.{Mapped, mapped_start, mapped_next, mapped_end}
+use Rattle.sorting.proofs.Collisions.{mapped_start, mapped_next, mapped_end}
 use Rattle.sorting.proofs.colliding.hash_places.Goals as goal
 
 pub loop-i-init : goal.loop-i-init

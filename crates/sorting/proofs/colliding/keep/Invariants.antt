@@ -1,6 +1,6 @@
 -- `keep` meets its contract: what was moved to the front and what is still to be looked at come to the same at every turn.
-use Rattle.std.proofs.Common.{◌-◌, ◌≤◌, length, arith, rules}
-use Rattle.sorting.proofs.Collisions.{hash_in, Moved, moved_start, moved_kept, moved_left, moved_end}
+use Rattle.std.proofs.Common.{◌-◌, ◌≤◌, length}
+use Rattle.sorting.proofs.Collisions.{Moved}
 use Rattle.sorting.proofs.colliding.keep.Given as goal
 
 abbrev pub invariant-loop-i : goal.invariant-loop-i

@@ -1,5 +1,5 @@
 -- `keep_colliding` meets its contract: few places all stay.
-use Rattle.std.proofs.Common.{refl, arith, rules}
+use Rattle.std.proofs.Common.{refl, arith}
 use lib.Seq.{take-length}
 use Rattle.sorting.proofs.Collisions.{kept_whole}
 use Rattle.sorting.proofs.colliding.keep_colliding.Goals as goal

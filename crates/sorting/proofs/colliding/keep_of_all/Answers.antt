@@ -1,5 +1,5 @@
 -- `keep_of_all` meets its contract: each hash has its count, and the places stay whose hash is colliding.
-use Rattle.std.proofs.Common.{ℕ, ◌∙◌, rules}
+use Rattle.std.proofs.Common.{ℕ, ◌∙◌}
 use lib.ListN.{length-replicate}
 use Rattle.sorting.specs.Colliding.{hash_limit}
 use Rattle.sorting.proofs.Collisions.{hashes_below, counted_none, kept}

@@ -1,5 +1,5 @@
 -- `keep_of_some` meets its contract: the places stay whose short hash is colliding, and where two of these differ the hashes do.
-use Rattle.std.proofs.Common.{ℕ, ◌%◌, ◌<◌, map, length, ap, ◌∙◌, arith, rules}
+use Rattle.std.proofs.Common.{ℕ, ◌%◌, ◌<◌, map, length, ap, ◌∙◌, arith}
 use lib.ListN.{length-map, length-replicate}
 use Rattle.lists.proofs.Selections.{map-map}
 use Rattle.sorting.specs.Colliding.{some_hashes}

@@ -1,5 +1,5 @@
 -- `mix` meets its contract: each factor by its own branch, and what is mixed fits.
-use Rattle.std.proofs.Common.{sym, ap, arith, rules}
+use Rattle.std.proofs.Common.{sym, ap, arith}
 use Rattle.sorting.specs.Colliding.{mixed}
 use Rattle.sorting.proofs.Collisions.{mixed_fits}
 use Rattle.sorting.proofs.colliding.mix.Goals as goal

@@ -1,7 +1,7 @@
 -- `shorten` meets its contract: the hashes below i are short, and the others as they were.
-use Rattle.std.proofs.Common.{◌≡◌, ◌-◌, ◌%◌, ◌≤◌, length, drop, refl, ap, arith, length-set, rules}
+use Rattle.std.proofs.Common.{◌%◌, refl, ap, arith, length-set}
 use Rattle.sorting.specs.Colliding.{some_hashes}
-use Rattle.sorting.proofs.Collisions.{Mapped, mapped_start, mapped_next, mapped_end, head_kept, rest_kept}
+use Rattle.sorting.proofs.Collisions.{mapped_start, mapped_next, mapped_end, head_kept, rest_kept}
 use Rattle.sorting.proofs.colliding.shorten.Goals as goal
 
 pub loop-i-init : goal.loop-i-init

@@ -1,7 +1,7 @@
 -- `shorten` meets its contract: the hashes below i are short, and the others as they were.
-use Rattle.std.proofs.Common.{◌≡◌, ◌-◌, ◌%◌, ◌≤◌, length, drop, refl, ap, arith, length-set, rules}
+use Rattle.std.proofs.Common.{◌≡◌, ◌-◌, ◌%◌, ◌≤◌, length, drop}
 use Rattle.sorting.specs.Colliding.{some_hashes}
-use Rattle.sorting.proofs.Collisions.{Mapped, mapped_start, mapped_next, mapped_end, head_kept, rest_kept}
+use Rattle.sorting.proofs.Collisions.{Mapped}
 use Rattle.sorting.proofs.colliding.shorten.Given as goal
 
 abbrev pub invariant-loop-i : goal.invariant-loop-i

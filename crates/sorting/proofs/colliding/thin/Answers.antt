@@ -1,5 +1,5 @@
 -- `thin` meets its contract: of the places with their hashes those stay whose hash another has, and two places that agree have one hash.
-use Rattle.std.proofs.Common.{length, ap, ◌∙◌, rules}
+use Rattle.std.proofs.Common.{length, ap, ◌∙◌}
 use lib.ListN.{length-map}
 use Rattle.sorting.proofs.Collisions.{hashes_under, thinned}
 use Rattle.sorting.proofs.colliding.thin.Goals as goal

@@ -1,7 +1,5 @@
 -- `neighbours_differ` meets its contract: the loop compares each two that follow each other.
-use Rattle.std.proofs.Common.{◌≡◌, ◌-◌, ◌≤◌, not, length, drop, sym, refl, ap, ◌∙◌, arith, rules}
-use Rattle.lists.specs.Lists.{chained}
-use Rattle.sorting.specs.Keys.{same_key}
+use Rattle.std.proofs.Common.{not, sym, refl, ap, ◌∙◌, arith}
 use Rattle.sorting.proofs.KeyOrder.{keyed_at_lem}
 use Rattle.sorting.proofs.Passes.{chain_on, chain_stop, chain_end}
 use Rattle.sorting.proofs.distinct.neighbours_differ.Goals as goal

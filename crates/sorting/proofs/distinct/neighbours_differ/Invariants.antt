@@ -1,9 +1,7 @@
 -- `neighbours_differ` meets its contract: the loop compares each two that follow each other.
-use Rattle.std.proofs.Common.{◌≡◌, ◌-◌, ◌≤◌, not, length, drop, sym, refl, ap, ◌∙◌, arith, rules}
+use Rattle.std.proofs.Common.{◌≡◌, ◌-◌, ◌≤◌, not, length, drop}
 use Rattle.lists.specs.Lists.{chained}
 use Rattle.sorting.specs.Keys.{same_key}
-use Rattle.sorting.proofs.KeyOrder.{keyed_at_lem}
-use Rattle.sorting.proofs.Passes.{chain_on, chain_stop, chain_end}
 use Rattle.sorting.proofs.distinct.neighbours_differ.Given as goal
 
 abbrev pub invariant-loop-i : goal.invariant-loop-i

@@ -1,5 +1,5 @@
 -- `places_differ` meets its contract: whether any two are equal is decided by the places left.
-use Rattle.std.proofs.Common.{sym, ◌∙◌, arith, length-take, length-take-le, rules}
+use Rattle.std.proofs.Common.{sym, ◌∙◌, arith, length-take, length-take-le}
 use Rattle.sorting.proofs.Collisions.{thinned_keyed, distinct_thinned}
 use Rattle.sorting.proofs.distinct.places_differ.Goals as goal
 

@@ -1,5 +1,5 @@
 -- `sorted_differ` meets its contract: in a sorted permutation neighbours differ just where all do.
-use Rattle.std.proofs.Common.{◌∙◌, rules}
+use Rattle.std.proofs.Common.{◌∙◌}
 use Rattle.sorting.proofs.KeyOrder.{keyed_permuted, distinct_sorted}
 use Rattle.sorting.proofs.distinct.sorted_differ.Goals as goal
 

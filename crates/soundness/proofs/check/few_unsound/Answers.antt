@@ -1,5 +1,4 @@
 -- `few_unsound` meets its contract: its scratch is long enough for so many records.
-use borrow.Author.Rules.{rules}
 use native.Mathlib.Omega.{arith}
 use lib.ListN.{length-replicate}
 use Rattle.soundness.specs.Scratch.{few_records}

@@ -1,5 +1,4 @@
 -- `some_unsound` meets its contract: its scratch is long enough for so many records.
-use borrow.Author.Rules.{rules}
 use native.Mathlib.Omega.{arith}
 use lib.ListN.{length-replicate}
 use Rattle.soundness.specs.Scratch.{some_records}

@@ -1,6 +1,4 @@
 -- `unsound_by` meets its contract: a line of the records that fails is the answer, else the answer is among the others.
-use borrow.Author.Rules.{rules}
-use mathlib.Core.Path.{◌∙◌}
 use native.Mathlib.Omega.{arith}
 use Rattle.soundness.proofs.TestPremises.{snapshots_lent_lem, nestable}
 use Rattle.soundness.proofs.check.unsound_by.Goals as goal

@@ -1,5 +1,4 @@
 -- `check` meets its contract: the tables are sound or not, and have their room.
-use borrow.Author.Rules.{rules}
 use Rattle.refusals.proofs.Laws.{checked_as}
 use Rattle.soundness.proofs.Lines.{sound_is}
 use Rattle.soundness.proofs.checked.check.Goals as goal

@@ -48,7 +48,7 @@ pub returns-then-not-fields : goal.returns-then-not-fields
 returns-then-not-fields c =
     let w = words_of c.args.counts _ c.requires.0 in
     let fields : c.fields_in_range-fields.result ≡ fields_in_range (load w c.args.counts) =
-        c.fields_in_range-fields.ensures _ refl refl refl refl refl refl refl refl refl refl refl in
+    c.fields_in_range-fields.ensures _ refl refl refl refl refl refl refl refl refl refl refl in
     tells w c.args.counts (λ e. omega (arith, e)) (stops (all_left w c.args.counts) (by_second c.requires.0 (failed fields c.if-not-fields.true-raw)))
 
 pub snapshots_rise-rise-requires : goal.snapshots_rise-rise-requires
@@ -59,7 +59,7 @@ pub returns-then-not-rise : goal.returns-then-not-rise
 returns-then-not-rise c =
     let w = words_of c.args.counts _ c.requires.0 in
     let fields : c.fields_in_range-fields.result ≡ fields_in_range (load w c.args.counts) =
-        c.fields_in_range-fields.ensures _ refl refl refl refl refl refl refl refl refl refl refl in
+    c.fields_in_range-fields.ensures _ refl refl refl refl refl refl refl refl refl refl refl in
     let rise : c.snapshots_rise-rise.result ≡ snapshots_rise (load w c.args.counts).snapshots = rise_is w c.args.counts c.snapshots_rise-rise.ensures in
     tells w c.args.counts (λ e. omega (arith, e)) (stops (at_rise w c.args.counts c.requires.0 (passed fields c.if-not-fields.false-raw)) (failed rise c.if-not-rise.true-raw))
 
@@ -73,7 +73,7 @@ pub returns-then-not-lives : goal.returns-then-not-lives
 returns-then-not-lives c =
     let w = words_of c.args.counts _ c.requires.0 in
     let fields : c.fields_in_range-fields.result ≡ fields_in_range (load w c.args.counts) =
-        c.fields_in_range-fields.ensures _ refl refl refl refl refl refl refl refl refl refl refl in
+    c.fields_in_range-fields.ensures _ refl refl refl refl refl refl refl refl refl refl refl in
     let rise : c.snapshots_rise-rise.result ≡ snapshots_rise (load w c.args.counts).snapshots = rise_is w c.args.counts c.snapshots_rise-rise.ensures in
     let lives : c.lives_sound-lives.result ≡ lives_sound (load w c.args.counts) = c.lives_sound-lives.ensures _ refl refl refl refl refl refl in
     tells w c.args.counts (λ e. omega (arith, e)) (stops (at_lives w c.args.counts c.requires.0 (passed fields c.if-not-fields.false-raw) (passed rise c.if-not-rise.false-raw)) (failed lives c.if-not-lives.true-raw))
@@ -86,7 +86,7 @@ pub returns-then-not-ascend : goal.returns-then-not-ascend
 returns-then-not-ascend c =
     let w = words_of c.args.counts _ c.requires.0 in
     let fields : c.fields_in_range-fields.result ≡ fields_in_range (load w c.args.counts) =
-        c.fields_in_range-fields.ensures _ refl refl refl refl refl refl refl refl refl refl refl in
+    c.fields_in_range-fields.ensures _ refl refl refl refl refl refl refl refl refl refl refl in
     let rise : c.snapshots_rise-rise.result ≡ snapshots_rise (load w c.args.counts).snapshots = rise_is w c.args.counts c.snapshots_rise-rise.ensures in
     let lives : c.lives_sound-lives.result ≡ lives_sound (load w c.args.counts) = c.lives_sound-lives.ensures _ refl refl refl refl refl refl in
     let ascend : c.ids_ascend-ascend.result ≡ ids_ascend (load w c.args.counts) = c.ids_ascend-ascend.ensures _ refl refl refl refl refl refl in
@@ -103,7 +103,7 @@ pub returns-then-not-below : goal.returns-then-not-below
 returns-then-not-below c =
     let w = words_of c.args.counts _ c.requires.0 in
     let fields : c.fields_in_range-fields.result ≡ fields_in_range (load w c.args.counts) =
-        c.fields_in_range-fields.ensures _ refl refl refl refl refl refl refl refl refl refl refl in
+    c.fields_in_range-fields.ensures _ refl refl refl refl refl refl refl refl refl refl refl in
     let rise : c.snapshots_rise-rise.result ≡ snapshots_rise (load w c.args.counts).snapshots = rise_is w c.args.counts c.snapshots_rise-rise.ensures in
     let lives : c.lives_sound-lives.result ≡ lives_sound (load w c.args.counts) = c.lives_sound-lives.ensures _ refl refl refl refl refl refl in
     let ascend : c.ids_ascend-ascend.result ≡ ids_ascend (load w c.args.counts) = c.ids_ascend-ascend.ensures _ refl refl refl refl refl refl in
@@ -114,7 +114,7 @@ pub returns : goal.returns
 returns c =
     let w = words_of c.args.counts _ c.requires.0 in
     let fields : c.fields_in_range-fields.result ≡ fields_in_range (load w c.args.counts) =
-        c.fields_in_range-fields.ensures _ refl refl refl refl refl refl refl refl refl refl refl in
+    c.fields_in_range-fields.ensures _ refl refl refl refl refl refl refl refl refl refl refl in
     let rise : c.snapshots_rise-rise.result ≡ snapshots_rise (load w c.args.counts).snapshots = rise_is w c.args.counts c.snapshots_rise-rise.ensures in
     let lives : c.lives_sound-lives.result ≡ lives_sound (load w c.args.counts) = c.lives_sound-lives.ensures _ refl refl refl refl refl refl in
     let ascend : c.ids_ascend-ascend.result ≡ ids_ascend (load w c.args.counts) = c.ids_ascend-ascend.ensures _ refl refl refl refl refl refl in

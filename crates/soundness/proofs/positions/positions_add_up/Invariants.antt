@@ -1,15 +1,7 @@
 -- `positions_add_up` meets its contract: the sum so far is that of the delete files passed, and sums never fall.
-use borrow.Author.Rules.{rules}
-use borrow.Author.Tests.{ne_eqb}
-use Prim.Native.Nat.{ℕ, ◌+◌, ◌-◌, ◌≤◌, ◌<◌}
-use mathlib.Core.Path.{◌≡◌, sym, ap, ap₂, ◌∙◌}
-use mathlib.Core.Bool.{false}
-use mathlib.Core.List.{List}
-use native.Mathlib.Omega.{arith}
-use native.Mathlib.Numerals.{add-one}
-use lib.Dec.{eqb}
-use Rattle.layout.specs.Words.{delete_count, positions_before, positions_first, positions_then}
-use Rattle.layout.proofs.RoundTrip.{positions_grow}
+use Prim.Native.Nat.{◌-◌, ◌≤◌}
+use mathlib.Core.Path.{◌≡◌}
+use Rattle.layout.specs.Words.{positions_before}
 use Rattle.soundness.proofs.positions.positions_add_up.Given as goal
 
 abbrev pub invariant-loop-i : goal.invariant-loop-i

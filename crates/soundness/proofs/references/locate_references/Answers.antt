@@ -1,5 +1,4 @@
 -- `locate_references` meets its contract: each search is in records that are found by their ids.
-use borrow.Author.Rules.{rules}
 use mathlib.Core.Path.{◌∙◌}
 use native.Mathlib.Omega.{arith}
 use Rattle.soundness.proofs.references.locate_references.Goals as goal

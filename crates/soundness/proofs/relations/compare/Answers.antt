@@ -1,5 +1,4 @@
 -- `compare` meets its contract: each test is made on tables whose records hold, in scratch that stays as long.
-use borrow.Author.Rules.{rules}
 use mathlib.Core.Path.{refl, ◌∙◌}
 use Rattle.soundness.proofs.Scratches.{files_scratch, names_scratch, rows_scratch, scratch_kept}
 use Rattle.soundness.proofs.TestPremises.{files_lent, named, row_ranges_checkable}

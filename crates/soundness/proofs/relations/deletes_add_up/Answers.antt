@@ -1,5 +1,4 @@
 -- `deletes_add_up` meets its contract: delete files are looked at where positions add up.
-use borrow.Author.Rules.{rules}
 use mathlib.Core.Path.{◌≡◌, refl, sym, ◌∙◌}
 use Rattle.lists.proofs.Tests.{passed, failed}
 use Rattle.layout.specs.declared.outcome.Counts.{Counts}

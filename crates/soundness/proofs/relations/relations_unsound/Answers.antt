@@ -7,7 +7,6 @@ use Rattle.layout.specs.Words.{Words, load}
 use mathlib.Core.Bool.{◌&&◌}
 use Rattle.ducklake.specs.Soundness.{files_distinct, lives_nest, names_apart, positions_add_up, deletes_sound, row_ranges_sound, statistics_sound, column_counts_sound, first_unsound}
 use Rattle.soundness.specs.Scratch.{RecordsHold}
-use Rattle.soundness.specs.Told.{Compares}
 use Rattle.soundness.proofs.Lines.{Left, all_left, stops, goes_on, ends, by_second}
 use Rattle.soundness.proofs.TestPremises.{nestable, statistics_checkable, tables_and_columns}
 use Rattle.soundness.proofs.relations.relations_unsound.Goals as goal
@@ -98,7 +97,7 @@ returns-then-not-few c =
     let nest : c.lives_nest-nest.result ≡ lives_nest (load w c.args.counts) = c.lives_nest-nest.ensures _ refl refl refl refl refl in
     let covered : c.statistics_sound-covered.result ≡ statistics_sound (load w c.args.counts) = c.statistics_sound-covered.ensures _ refl refl refl in
     let few : c.column_counts_sound-few.result ≡ column_counts_sound (load w c.args.counts) =
-        c.column_counts_sound-few.ensures _ refl refl c.requires.0.lives (passed nest c.if-not-nest.false-raw) in
+    c.column_counts_sound-few.ensures _ refl refl c.requires.0.lives (passed nest c.if-not-nest.false-raw) in
     stops (at_columns w c.args.counts c.requires.0 (passed c.requires.1.distinct c.if-not-compared.false) (passed nest c.if-not-nest.false-raw) (passed c.requires.1.apart c.if-not-compared-2.false) (passed c.requires.1.deletes c.if-not-compared-3.false) (passed c.requires.1.rows c.if-not-compared-4.false) (passed covered c.if-not-covered.false-raw)) (failed few c.if-not-few.true-raw)
 
 pub returns : goal.returns
@@ -107,5 +106,5 @@ returns c =
     let nest : c.lives_nest-nest.result ≡ lives_nest (load w c.args.counts) = c.lives_nest-nest.ensures _ refl refl refl refl refl in
     let covered : c.statistics_sound-covered.result ≡ statistics_sound (load w c.args.counts) = c.statistics_sound-covered.ensures _ refl refl refl in
     let few : c.column_counts_sound-few.result ≡ column_counts_sound (load w c.args.counts) =
-        c.column_counts_sound-few.ensures _ refl refl c.requires.0.lives (passed nest c.if-not-nest.false-raw) in
+    c.column_counts_sound-few.ensures _ refl refl c.requires.0.lives (passed nest c.if-not-nest.false-raw) in
     ends (goes_on (at_columns w c.args.counts c.requires.0 (passed c.requires.1.distinct c.if-not-compared.false) (passed nest c.if-not-nest.false-raw) (passed c.requires.1.apart c.if-not-compared-2.false) (passed c.requires.1.deletes c.if-not-compared-3.false) (passed c.requires.1.rows c.if-not-compared-4.false) (passed covered c.if-not-covered.false-raw)) (passed few c.if-not-few.false-raw)) refl

@@ -1,17 +1,10 @@
 -- `all_positions_sound` meets its contract: the loop reads each delete file with its positions and judges them.
-use borrow.Author.Rules.{rules}
 use Prim.Native.Nat.{◌-◌, ◌≤◌}
-use mathlib.Core.Path.{◌≡◌, sym, ◌∙◌}
-use native.Mathlib.Omega.{arith}
+use mathlib.Core.Path.{◌≡◌}
 use Rattle.lists.specs.Lists.{all}
 use Rattle.lists.specs.Runs.{from}
-use Rattle.lists.proofs.Loops.{all_start, all_passed, all_failed, all_end}
-use Rattle.lists.proofs.Runs.{record_fits}
-use Rattle.layout.specs.Fields.{delete_file_size}
 use Rattle.layout.specs.Words.{data_files_in, delete_file_at, delete_files_in}
 use Rattle.ducklake.specs.Soundness.{positions_sound}
-use Rattle.lookup.proofs.Locations.{located_from}
-use Rattle.soundness_deletes.proofs.DeleteFiles.{read_sound}
 use Rattle.soundness_deletes.proofs.deletes.all_positions_sound.Given as goal
 
 abbrev pub invariant-loop-i : goal.invariant-loop-i

@@ -1,5 +1,4 @@
 -- `delete_files_apart` meets its contract: the three ways in which two delete files are apart, in the definition's order.
-use borrow.Author.Rules.{rules}
 use mathlib.Core.Path.{sym, ap}
 use Rattle.soundness_deletes.proofs.DeleteFiles.{apart_other, apart_forth, apart_back}
 use Rattle.soundness_deletes.proofs.deletes.delete_files_apart.Goals as goal

@@ -1,5 +1,4 @@
 -- `delete_files_apart_by` meets its contract: whether any two clash is decided by the places left.
-use borrow.Author.Rules.{rules}
 use mathlib.Core.Path.{sym, ◌∙◌}
 use native.Mathlib.Omega.{arith}
 use lib.Dec.{ltb}

@@ -1,5 +1,4 @@
 -- `deletes_sound` meets its contract: its two parts are those of the definition, over the runs that the words have.
-use borrow.Author.Rules.{rules}
 use mathlib.Core.Path.{refl, sym, ◌∙◌}
 use mathlib.Core.Bool.{and-true, and-false}
 use native.Mathlib.Omega.{arith}

@@ -1,5 +1,4 @@
 -- `positions_sound` meets its contract: the data file that was found is the only one of its id.
-use borrow.Author.Rules.{rules}
 use mathlib.Core.Path.{sym}
 use Rattle.lists.proofs.Places.{found_tells}
 use Rattle.lists.proofs.Runs.{record_fits}

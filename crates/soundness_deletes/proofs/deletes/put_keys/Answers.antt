@@ -1,5 +1,4 @@
 -- `put_keys` meets its contract: the second word put leaves the first.
-use borrow.Author.Rules.{rules}
 use native.Mathlib.Omega.{arith}
 use Rattle.layout.specs.Fields.{delete_file_size}
 use Rattle.soundness_deletes.proofs.DeleteOrder.{below_keyed, deletes_keyed}

@@ -1,5 +1,4 @@
 -- `sorted_apart` meets its contract: by data file and begin, those that follow each other decide.
-use borrow.Author.Rules.{rules}
 use mathlib.Core.Path.{◌∙◌}
 use Rattle.sorting.proofs.Permutations.{permutes_all}
 use Rattle.soundness_deletes.proofs.DeleteOrder.{places_below, places_keyed, apart_sorted}

@@ -1,5 +1,4 @@
 -- `succeeded` meets its contract: begins and ends as they were read, and both runs of positions ascend.
-use borrow.Author.Rules.{rules}
 use mathlib.Core.Path.{sym, ap, ◌∙◌}
 use lib.Dec.{ltb}
 use Rattle.lists.specs.Lists.{chained}

@@ -1,17 +1,11 @@
 -- `all_rows_in_tables` meets its contract: the loop reads and judges one data file after the other.
-use borrow.Author.Rules.{rules}
 use Prim.Native.Nat.{ℕ, ◌-◌, ◌≤◌}
-use mathlib.Core.Path.{◌≡◌, sym, ◌∙◌}
+use mathlib.Core.Path.{◌≡◌}
 use mathlib.Core.List.{List}
-use native.Mathlib.Omega.{arith}
 use Rattle.lists.specs.Lists.{all}
 use Rattle.lists.specs.Runs.{from}
-use Rattle.lists.proofs.Loops.{all_start, all_passed, all_failed, all_end}
-use Rattle.lists.proofs.Runs.{record_fits}
-use Rattle.layout.specs.Fields.{data_file_size}
 use Rattle.layout.specs.Words.{tables_in, data_file_at, data_files_in}
 use Rattle.ducklake.specs.Soundness.{rows_in_table}
-use Rattle.soundness_deletes.proofs.RowRanges.{rows_read, in_range_at}
 use Rattle.soundness_deletes.proofs.rows.all_rows_in_tables.Given as goal
 
 abbrev pub invariant-loop-i : goal.invariant-loop-i

@@ -1,5 +1,4 @@
 -- `row_id_end` meets its contract: row numbers and record counts in range add up to a word.
-use borrow.Author.Rules.{rules}
 use Rattle.soundness_deletes.proofs.RowRanges.{rows_fit}
 use Rattle.soundness_deletes.proofs.rows.row_id_end.Goals as goal
 

@@ -1,17 +1,11 @@
 -- `rows_ascend` meets its contract: each file is tested against the end noted for its table, which stands for all earlier files of it.
-use borrow.Author.Rules.{rules}
-use Prim.Native.Nat.{ℕ, ◌-◌, ◌*◌, ◌≤◌, ◌<◌}
-use mathlib.Core.Path.{◌≡◌, refl, sym, ap, ◌∙◌}
-use native.Mathlib.Omega.{arith}
-use lib.ListN.{length, length-replicate, length-set}
-use mir.Syntax.{w64}
-use mir.Val.{Fits}
+use Prim.Native.Nat.{◌-◌, ◌≤◌}
+use mathlib.Core.Path.{◌≡◌}
+use lib.ListN.{length}
 use Rattle.lists.specs.Lists.{pairwise}
-use Rattle.lists.proofs.Runs.{record_fits}
-use Rattle.layout.specs.Fields.{data_file_size}
 use Rattle.layout.specs.Words.{data_files_in}
 use Rattle.ducklake.specs.Soundness.{rows_before}
-use Rattle.soundness_deletes.proofs.RowRanges.{in_range_at, slot, ascend, ascend_start, ascend_found, ascend_pass, ascend_fail, ascend_end}
+use Rattle.soundness_deletes.proofs.RowRanges.{ascend}
 use Rattle.soundness_deletes.proofs.rows.rows_ascend.Given as goal
 
 abbrev pub invariant-loop-i : goal.invariant-loop-i

@@ -1,5 +1,4 @@
 -- `rows_in_table` meets its contract: the table that was found is the only one of its id.
-use borrow.Author.Rules.{rules}
 use mathlib.Core.Path.{sym, ap}
 use Rattle.lists.proofs.Places.{found_tells}
 use Rattle.lists.proofs.Runs.{record_fits}

@@ -1,5 +1,4 @@
 -- `ids_ascend` meets its contract: ids ascend where their words do.
-use borrow.Author.Rules.{rules}
 use Rattle.layout.specs.Words.{load}
 use Rattle.ducklake.specs.Soundness.{ids_ascend}
 use Rattle.soundness_fields.proofs.Ids.{schema_ids_lem, table_ids_lem, data_file_ids_lem, delete_file_ids_lem, column_ids, statistics_ids}

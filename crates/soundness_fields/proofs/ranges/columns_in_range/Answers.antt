@@ -1,12 +1,6 @@
 -- `columns_in_range` meets its contract: the loop tests each column.
-use borrow.Author.Rules.{rules}
-use Prim.Native.Nat.{◌-◌}
-use mathlib.Core.Path.{◌≡◌, sym, ◌∙◌}
-use Rattle.lists.specs.Lists.{all}
-use Rattle.lists.specs.Runs.{from}
+use mathlib.Core.Path.{sym, ◌∙◌}
 use Rattle.lists.proofs.Loops.{all_start, all_passed, all_failed, all_end}
-use Rattle.layout.specs.Words.{column_at, columns_in}
-use Rattle.ducklake.specs.Soundness.{column_in_range}
 use Rattle.soundness_fields.proofs.ranges.columns_in_range.Goals as goal
 
 pub loop-i-init : goal.loop-i-init

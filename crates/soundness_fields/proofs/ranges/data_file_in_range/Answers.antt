@@ -1,5 +1,4 @@
 -- `data_file_in_range` meets its contract: it tests the fields that the definition does.
-use borrow.Author.Rules.{rules}
 use Rattle.ducklake.specs.Soundness.{data_file_in_range, is_record_count}
 use Rattle.soundness_fields.proofs.ranges.data_file_in_range.Goals as goal
 

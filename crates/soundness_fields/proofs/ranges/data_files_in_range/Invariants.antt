@@ -1,10 +1,8 @@
 -- `data_files_in_range` meets its contract: the loop tests each data file.
-use borrow.Author.Rules.{rules}
 use Prim.Native.Nat.{◌-◌}
-use mathlib.Core.Path.{◌≡◌, sym, ◌∙◌}
+use mathlib.Core.Path.{◌≡◌}
 use Rattle.lists.specs.Lists.{all}
 use Rattle.lists.specs.Runs.{from}
-use Rattle.lists.proofs.Loops.{all_start, all_passed, all_failed, all_end}
 use Rattle.layout.specs.Words.{data_file_at, data_files_in}
 use Rattle.ducklake.specs.Soundness.{data_file_in_range}
 use Rattle.soundness_fields.proofs.ranges.data_files_in_range.Given as goal

@@ -1,13 +1,6 @@
 -- `delete_files_in_range` meets its contract: the loop tests each delete file.
-use borrow.Author.Rules.{rules}
-use Prim.Native.Nat.{ℕ, ◌-◌}
-use mathlib.Core.Path.{◌≡◌, sym, ◌∙◌}
-use mathlib.Core.List.{List}
-use Rattle.lists.specs.Lists.{all}
-use Rattle.lists.specs.Runs.{from}
+use mathlib.Core.Path.{sym, ◌∙◌}
 use Rattle.lists.proofs.Loops.{all_start, all_passed, all_failed, all_end}
-use Rattle.layout.specs.Words.{delete_file_at, delete_files_in}
-use Rattle.ducklake.specs.Soundness.{delete_file_in_range}
 use Rattle.soundness_fields.proofs.ranges.delete_files_in_range.Goals as goal
 
 pub loop-i-init : goal.loop-i-init

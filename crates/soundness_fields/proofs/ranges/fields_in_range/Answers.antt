@@ -1,5 +1,4 @@
 -- `fields_in_range` meets its contract: it is the test of each table.
-use borrow.Author.Rules.{rules}
 use Rattle.layout.specs.Words.{load}
 use Rattle.ducklake.specs.Soundness.{fields_in_range}
 use Rattle.soundness_fields.proofs.ranges.fields_in_range.Goals as goal

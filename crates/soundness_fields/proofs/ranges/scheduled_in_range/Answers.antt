@@ -1,5 +1,4 @@
 -- `scheduled_in_range` meets its contract: a scheduled record is in range where its file id is.
-use borrow.Author.Rules.{rules}
 use mathlib.Core.Path.{◌∙◌}
 use lib.Dec.{leb-zero}
 use Rattle.lists.specs.Lists.{range}

@@ -1,5 +1,4 @@
 -- `schema_in_range` meets its contract: it tests the fields that the definition does.
-use borrow.Author.Rules.{rules}
 use Rattle.ducklake.specs.Soundness.{schema_in_range}
 use Rattle.soundness_fields.proofs.ranges.schema_in_range.Goals as goal
 

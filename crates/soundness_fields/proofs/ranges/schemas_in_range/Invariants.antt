@@ -1,10 +1,8 @@
 -- `schemas_in_range` meets its contract: the loop tests each schema.
-use borrow.Author.Rules.{rules}
 use Prim.Native.Nat.{◌-◌}
-use mathlib.Core.Path.{◌≡◌, sym, ◌∙◌}
+use mathlib.Core.Path.{◌≡◌}
 use Rattle.lists.specs.Lists.{all}
 use Rattle.lists.specs.Runs.{from}
-use Rattle.lists.proofs.Loops.{all_start, all_passed, all_failed, all_end}
 use Rattle.layout.specs.Words.{schema_at, schemas_in}
 use Rattle.ducklake.specs.Soundness.{schema_in_range}
 use Rattle.soundness_fields.proofs.ranges.schemas_in_range.Given as goal

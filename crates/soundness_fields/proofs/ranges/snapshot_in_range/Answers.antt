@@ -1,5 +1,4 @@
 -- `snapshot_in_range` meets its contract: it tests the fields that the definition does.
-use borrow.Author.Rules.{rules}
 use Rattle.ducklake.specs.Soundness.{snapshot_in_range}
 use Rattle.soundness_fields.proofs.ranges.snapshot_in_range.Goals as goal
 

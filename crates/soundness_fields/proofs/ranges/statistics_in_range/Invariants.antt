@@ -1,10 +1,8 @@
 -- `statistics_in_range` meets its contract: the loop tests each statistics record.
-use borrow.Author.Rules.{rules}
 use Prim.Native.Nat.{◌-◌}
-use mathlib.Core.Path.{◌≡◌, sym, ◌∙◌}
+use mathlib.Core.Path.{◌≡◌}
 use Rattle.lists.specs.Lists.{all}
 use Rattle.lists.specs.Runs.{from}
-use Rattle.lists.proofs.Loops.{all_start, all_passed, all_failed, all_end}
 use Rattle.layout.specs.Words.{statistics_at, statistics_in}
 use Rattle.ducklake.specs.Soundness.{statistics_in_range}
 use Rattle.soundness_fields.proofs.ranges.statistics_in_range.Given as goal

@@ -1,10 +1,8 @@
 -- `tables_in_range` meets its contract: the loop tests each table.
-use borrow.Author.Rules.{rules}
 use Prim.Native.Nat.{◌-◌}
-use mathlib.Core.Path.{◌≡◌, sym, ◌∙◌}
+use mathlib.Core.Path.{◌≡◌}
 use Rattle.lists.specs.Lists.{all}
 use Rattle.lists.specs.Runs.{from}
-use Rattle.lists.proofs.Loops.{all_start, all_passed, all_failed, all_end}
 use Rattle.layout.specs.Words.{table_at, tables_in}
 use Rattle.ducklake.specs.Soundness.{table_in_range}
 use Rattle.soundness_fields.proofs.ranges.tables_in_range.Given as goal

@@ -1,15 +1,11 @@
 -- `changes_sound` meets its contract: the loop tests each snapshot as the definition does.
-use borrow.Author.Rules.{rules}
-use Prim.Native.Nat.{ℕ, ◌-◌}
+use Prim.Native.Nat.{ℕ}
 use mathlib.Core.Path.{◌≡◌, sym, ◌∙◌}
 use mathlib.Core.Bool.{Bool, ◌&&◌}
 use lib.Dec.{ltb}
-use Rattle.lists.specs.Lists.{all}
-use Rattle.lists.specs.Runs.{from}
 use Rattle.lists.proofs.Loops.{all_start, all_passed, all_failed, all_end}
 use Rattle.layout.specs.declared.record.SnapshotRecord.{SnapshotRecord}
-use Rattle.layout.specs.Catalog.{Snapshot, snapshot_of}
-use Rattle.layout.specs.Words.{snapshot_at, snapshots_in}
+use Rattle.layout.specs.Catalog.{snapshot_of}
 use Rattle.ducklake.specs.Kinds.{is_kind}
 use Rattle.soundness_fields.proofs.snapshots.changes_sound.Invariants.{sound}
 use Rattle.soundness_fields.proofs.snapshots.changes_sound.Goals as goal

@@ -1,5 +1,4 @@
 -- `next_follows` meets its contract: it compares the fields that the definition does.
-use borrow.Author.Rules.{rules}
 use Rattle.ducklake.specs.Soundness.{follows}
 use Rattle.soundness_fields.proofs.snapshots.next_follows.Goals as goal
 

@@ -1,5 +1,4 @@
 -- `snapshots_rise` meets its contract: the latest snapshot is the last, and the two loops are the two tests.
-use borrow.Author.Rules.{rules}
 use borrow.Author.Tests.{lt-ltb}
 use Prim.Native.Nat.{ℕ, ◌<◌}
 use mathlib.Core.Path.{◌≡◌, sym, ap}

@@ -1,5 +1,4 @@
 -- `life_sound` meets its contract: the latest snapshot is the last, and `is_live_at_some` is the last test.
-use borrow.Author.Rules.{rules}
 use mathlib.Core.Path.{◌≡◌, refl}
 use mathlib.Core.Bool.{Bool, ◌&&◌, ◌||◌}
 use mathlib.Core.List.{List}

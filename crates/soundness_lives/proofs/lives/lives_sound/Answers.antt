@@ -1,5 +1,4 @@
 -- `lives_sound` meets its contract: of a record only its life is judged.
-use borrow.Author.Rules.{rules}
 use mathlib.Core.Path.{refl, ap₂, ◌∙◌}
 use mathlib.Core.Bool.{◌&&◌}
 use Rattle.lists.specs.Lists.{range}

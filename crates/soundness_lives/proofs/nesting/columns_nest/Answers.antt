@@ -1,14 +1,7 @@
 -- `columns_nest` meets its contract: the loop tests each column.
-use borrow.Author.Rules.{rules}
-use Prim.Native.Nat.{ℕ, ◌-◌, ◌≤◌}
-use mathlib.Core.Path.{◌≡◌, sym, ◌∙◌}
-use mathlib.Core.List.{List}
+use mathlib.Core.Path.{sym, ◌∙◌}
 use native.Mathlib.Omega.{arith}
-use Rattle.lists.specs.Lists.{all}
-use Rattle.lists.specs.Runs.{from}
 use Rattle.lists.proofs.Loops.{all_start, all_passed, all_failed, all_end}
-use Rattle.layout.specs.Words.{tables_in, column_at, columns_in}
-use Rattle.ducklake.specs.Soundness.{column_nests}
 use Rattle.soundness_lives.proofs.nesting.columns_nest.Goals as goal
 
 pub loop-i-init : goal.loop-i-init

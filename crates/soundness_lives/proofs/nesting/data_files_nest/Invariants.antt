@@ -1,15 +1,11 @@
 -- `data_files_nest` meets its contract: the loop tests each data file with the table of its table id.
-use borrow.Author.Rules.{rules}
 use Prim.Native.Nat.{ℕ, ◌-◌, ◌≤◌}
-use mathlib.Core.Path.{◌≡◌, sym, ◌∙◌}
+use mathlib.Core.Path.{◌≡◌}
 use mathlib.Core.List.{List}
-use native.Mathlib.Omega.{arith}
 use Rattle.lists.specs.Lists.{all}
 use Rattle.lists.specs.Runs.{from}
-use Rattle.lists.proofs.Loops.{all_start, all_passed, all_failed, all_end}
 use Rattle.layout.specs.Words.{tables_in, data_file_at, data_files_in}
 use Rattle.ducklake.specs.Soundness.{data_file_nests}
-use Rattle.soundness_lives.proofs.Held.{data_file_held}
 use Rattle.soundness_lives.proofs.nesting.data_files_nest.Given as goal
 
 abbrev pub invariant-loop-i : goal.invariant-loop-i

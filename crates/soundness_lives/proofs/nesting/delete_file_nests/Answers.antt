@@ -20,13 +20,13 @@ pub data_file_table-of_file-requires : goal.data_file_table-of_file-requires
 -- the place found lies in the run
 data_file_table-of_file-requires c =
     let found_fits : data_file_size * c.in-At.j + data_file_size ≤ length c.args.data_files.now =
-        record_fits data_file_size (found_tells _ _ _ c.find_data_file_near-found.ensures c.in-At.is).0 c.requires.0.lent in
+    record_fits data_file_size (found_tells _ _ _ c.find_data_file_near-found.ensures c.in-At.is).0 c.requires.0.lent in
     found_fits
 
 pub life_at-outer-requires : goal.life_at-outer-requires
 life_at-outer-requires c =
     let found_fits : data_file_size * c.in-At.j + data_file_size ≤ length c.args.data_files.now =
-        record_fits data_file_size (found_tells _ _ _ c.find_data_file_near-found.ensures c.in-At.is).0 c.requires.0.lent in
+    record_fits data_file_size (found_tells _ _ _ c.find_data_file_near-found.ensures c.in-At.is).0 c.requires.0.lent in
     (found_fits, search rules)
 
 pub returns-in-At : goal.returns-in-At

@@ -1,14 +1,7 @@
 -- `delete_files_nest` meets its contract: the loop tests each delete file.
-use borrow.Author.Rules.{rules}
-use Prim.Native.Nat.{ℕ, ◌-◌, ◌≤◌}
-use mathlib.Core.Path.{◌≡◌, sym, ◌∙◌}
-use mathlib.Core.List.{List}
+use mathlib.Core.Path.{sym, ◌∙◌}
 use native.Mathlib.Omega.{arith}
-use Rattle.lists.specs.Lists.{all}
-use Rattle.lists.specs.Runs.{from}
 use Rattle.lists.proofs.Loops.{all_start, all_passed, all_failed, all_end}
-use Rattle.layout.specs.Words.{data_files_in, delete_file_at, delete_files_in}
-use Rattle.ducklake.specs.Soundness.{delete_file_nests}
 use Rattle.soundness_lives.proofs.nesting.delete_files_nest.Goals as goal
 
 pub loop-i-init : goal.loop-i-init

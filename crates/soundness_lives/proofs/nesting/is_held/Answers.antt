@@ -1,5 +1,4 @@
 -- `is_held` meets its contract: where ids ascend no other record has the id that was found.
-use borrow.Author.Rules.{rules}
 use mathlib.Core.Path.{sym, ap, ◌∙◌}
 use Rattle.lists.proofs.Runs.{record_fits}
 use Rattle.lists.proofs.Places.{found_tells, any_nowhere}

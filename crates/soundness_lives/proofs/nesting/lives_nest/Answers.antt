@@ -1,5 +1,4 @@
 -- `lives_nest` meets its contract: it is the test of each table.
-use borrow.Author.Rules.{rules}
 use mathlib.Core.Path.{ap₂}
 use mathlib.Core.Bool.{◌&&◌}
 use Rattle.layout.specs.Words.{load}

@@ -1,15 +1,11 @@
 -- `tables_nest` meets its contract: the loop tests each table with the schema of its schema id.
-use borrow.Author.Rules.{rules}
 use Prim.Native.Nat.{ℕ, ◌-◌, ◌≤◌}
-use mathlib.Core.Path.{◌≡◌, sym, ◌∙◌}
+use mathlib.Core.Path.{◌≡◌}
 use mathlib.Core.List.{List}
-use native.Mathlib.Omega.{arith}
 use Rattle.lists.specs.Lists.{all}
 use Rattle.lists.specs.Runs.{from}
-use Rattle.lists.proofs.Loops.{all_start, all_passed, all_failed, all_end}
 use Rattle.layout.specs.Words.{schemas_in, table_at, tables_in}
 use Rattle.ducklake.specs.Soundness.{table_nests}
-use Rattle.soundness_lives.proofs.Held.{table_held}
 use Rattle.soundness_lives.proofs.nesting.tables_nest.Given as goal
 
 abbrev pub invariant-loop-i : goal.invariant-loop-i

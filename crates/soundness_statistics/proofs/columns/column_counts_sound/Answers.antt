@@ -1,5 +1,4 @@
 -- `column_counts_sound` meets its contract: a column's life is its table's, so those on record are those live where the table is.
-use Rattle.std.proofs.Common.{rules}
 use Rattle.soundness_statistics.proofs.ColumnCounts.{counts_sound}
 use Rattle.soundness_statistics.proofs.columns.column_counts_sound.Goals as goal
 

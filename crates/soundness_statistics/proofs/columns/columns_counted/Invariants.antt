@@ -1,11 +1,9 @@
 -- `columns_counted` meets its contract: the columns of each table stand together, and the loop judges the length of their block.
-use Rattle.std.proofs.Common.{◌≡◌, ℕ, ◌-◌, ◌≤◌, List, sym, ap, ◌∙◌, arith, rules}
+use Rattle.std.proofs.Common.{◌≡◌, ℕ, ◌-◌, ◌≤◌, List}
 use Rattle.lists.specs.Lists.{all}
 use Rattle.lists.specs.Runs.{from}
-use Rattle.lists.proofs.Loops.{all_start, all_passed, all_failed, all_end}
 use Rattle.layout.specs.Words.{table_at, tables_in, columns_in}
 use Rattle.soundness_statistics.specs.Counted.{columns_counted}
-use Rattle.soundness_statistics.proofs.ColumnCounts.{counted_is}
 use Rattle.soundness_statistics.proofs.columns.columns_counted.Given as goal
 
 abbrev pub invariant-loop-i : goal.invariant-loop-i

@@ -1,5 +1,5 @@
 -- `bound_fits` meets its contract: the word is judged as the signed number that it stands for.
-use Rattle.std.proofs.Common.{refl, rules}
+use Rattle.std.proofs.Common.{refl}
 use mir.Facts.{of_z-to_z}
 use Rattle.ducklake.specs.Soundness.{bound_fits}
 use Rattle.soundness_statistics.proofs.fit.bound_fits.Goals as goal

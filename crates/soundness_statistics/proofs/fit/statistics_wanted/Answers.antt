@@ -1,5 +1,4 @@
 -- `statistics_wanted` meets its contract: whether a column is live hangs on its begin and end alone.
-use Rattle.std.proofs.Common.{rules}
 use Rattle.ducklake.specs.Liveness.{live}
 use Rattle.soundness_statistics.proofs.fit.statistics_wanted.Goals as goal
 

@@ -1,13 +1,9 @@
 -- `all_file_statistics_sound` meets its contract: the loop reads and judges one data file after the other.
-use Rattle.std.proofs.Common.{◌≡◌, ℕ, ◌-◌, ◌≤◌, List, sym, ◌∙◌, arith, rules}
+use Rattle.std.proofs.Common.{◌≡◌, ℕ, ◌-◌, ◌≤◌, List}
 use Rattle.lists.specs.Lists.{all}
 use Rattle.lists.specs.Runs.{from}
-use Rattle.lists.proofs.Loops.{all_start, all_passed, all_failed, all_end}
-use Rattle.lists.proofs.Runs.{record_fits}
-use Rattle.layout.specs.Fields.{data_file_size}
 use Rattle.layout.specs.Words.{columns_in, statistics_in, data_file_at, data_files_in}
 use Rattle.ducklake.specs.Soundness.{file_statistics_sound}
-use Rattle.soundness_statistics.proofs.FileStatistics.{file_read}
 use Rattle.soundness_statistics.proofs.statistics.all_file_statistics_sound.Given as goal
 
 abbrev pub invariant-loop-i : goal.invariant-loop-i

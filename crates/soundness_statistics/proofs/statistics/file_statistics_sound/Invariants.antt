@@ -1,11 +1,9 @@
 -- `file_statistics_sound` meets its contract: each turn passes the next column, and with it, where its statistics are wanted, the next record.
-use Rattle.std.proofs.Common.{◌≡◌, ℕ, ◌-◌, ◌≤◌, List, sym, ap, ◌∙◌, lt_of_lt_of_le, arith, rules}
-use Rattle.lists.proofs.Runs.{record_fits}
-use Rattle.layout.specs.Catalog.{data_file_of, statistics_of}
-use Rattle.layout.specs.Fields.{column_size, statistics_size}
+use Rattle.std.proofs.Common.{◌≡◌, ℕ, ◌-◌, ◌≤◌, List}
+use Rattle.layout.specs.Catalog.{data_file_of}
 use Rattle.layout.specs.Words.{columns_in, statistics_at, statistics_in}
 use Rattle.ducklake.specs.Soundness.{file_statistics_sound}
-use Rattle.soundness_statistics.proofs.FileStatistics.{judged, judged_start, judged_skip, judged_short, judged_pass, judged_fail, judged_end}
+use Rattle.soundness_statistics.proofs.FileStatistics.{judged}
 use Rattle.soundness_statistics.proofs.statistics.file_statistics_sound.Given as goal
 
 abbrev pub invariant-loop-c : goal.invariant-loop-c

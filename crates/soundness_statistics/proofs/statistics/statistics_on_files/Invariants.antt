@@ -1,12 +1,9 @@
 -- `statistics_on_files` meets its contract: the loop looks up the data file of each record, and it is there just where it has a place.
-use Rattle.std.proofs.Common.{◌≡◌, ◌-◌, ◌≤◌, sym, ap, ◌∙◌, arith, rules}
+use Rattle.std.proofs.Common.{◌≡◌, ◌-◌, ◌≤◌}
 use Rattle.lists.specs.Lists.{all}
 use Rattle.lists.specs.Runs.{from}
-use Rattle.lists.proofs.Loops.{all_start, all_pass, all_fail, all_end}
-use Rattle.lists.proofs.Places.{is_at}
 use Rattle.layout.specs.Words.{data_files_in, statistics_at, statistics_in}
 use Rattle.ducklake.specs.Soundness.{statistics_on_file}
-use Rattle.soundness_statistics.proofs.FileStatistics.{on_file_lem}
 use Rattle.soundness_statistics.proofs.statistics.statistics_on_files.Given as goal
 
 abbrev pub invariant-loop-i : goal.invariant-loop-i

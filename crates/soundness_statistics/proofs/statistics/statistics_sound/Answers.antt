@@ -1,5 +1,5 @@
 -- `statistics_sound` meets its contract: its two parts are those of the definition, over the runs that the words have.
-use Rattle.std.proofs.Common.{refl, rules}
+use Rattle.std.proofs.Common.{refl}
 use Rattle.layout.specs.Words.{load}
 use Rattle.ducklake.specs.Soundness.{statistics_sound}
 use Rattle.soundness_statistics.proofs.statistics.statistics_sound.Goals as goal

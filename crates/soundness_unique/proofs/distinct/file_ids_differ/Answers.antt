@@ -1,5 +1,4 @@
 -- `file_ids_differ` meets its contract: files that share an id share a hash, so those left decide, and their keys are ids.
-use borrow.Author.Rules.{rules}
 use mathlib.Core.Path.{refl, sym, ap, ◌∙◌}
 use native.Mathlib.Omega.{arith}
 use lib.ListN.{take, length-take}

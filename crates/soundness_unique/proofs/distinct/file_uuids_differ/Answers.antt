@@ -1,5 +1,4 @@
 -- `file_uuids_differ` meets its contract: files that share a UUID share a hash, so those left decide, and their keys are UUIDs.
-use borrow.Author.Rules.{rules}
 use mathlib.Core.Path.{refl, sym, ap, ◌∙◌}
 use native.Mathlib.Omega.{arith}
 use lib.ListN.{take, length-take}

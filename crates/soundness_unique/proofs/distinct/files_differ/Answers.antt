@@ -1,5 +1,4 @@
 -- `files_differ` meets its contract: ids, then UUIDs.
-use borrow.Author.Rules.{rules}
 use mathlib.Core.Path.{ap₂}
 use mathlib.Core.Bool.{◌&&◌}
 use Rattle.soundness_unique.proofs.distinct.files_differ.Goals as goal

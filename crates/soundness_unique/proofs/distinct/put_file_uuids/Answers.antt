@@ -1,5 +1,4 @@
 -- `put_file_uuids` meets its contract: the high words, then the low ones.
-use borrow.Author.Rules.{rules}
 use mathlib.Core.Path.{◌∙◌}
 use native.Mathlib.Omega.{arith}
 use Rattle.soundness_unique.proofs.FileKeys.{uuids_put}

@@ -1,13 +1,10 @@
 -- `put_file_words` meets its contract: at every turn the words of the files at the places so far are in their keys.
-use borrow.Author.Rules.{rules}
-use Prim.Native.Nat.{◌+◌, ◌*◌, ◌-◌, ◌≤◌}
-use mathlib.Core.Path.{◌≡◌, refl}
+use Prim.Native.Nat.{◌+◌, ◌*◌, ◌≤◌}
+use mathlib.Core.Path.{refl}
 use native.Mathlib.Omega.{arith}
-use lib.ListN.{length, take, get_or, length-set}
+use lib.ListN.{length, get_or, length-set}
 use Rattle.lists.proofs.Runs.{record_fits}
-use Rattle.sorting.specs.Keys.{Put}
 use Rattle.sorting.proofs.Putting.{put-start, put_next, put_end}
-use Rattle.soundness_unique.specs.Files.{file_word}
 use Rattle.soundness_unique.proofs.FileKeys.{place_of_file_lem}
 use Rattle.soundness_unique.proofs.distinct.put_file_words.Goals as goal
 

@@ -1,5 +1,4 @@
 -- `catalog_ids_below` meets its contract: the id of a record is its first word.
-use borrow.Author.Rules.{rules}
 use Rattle.soundness_unique.proofs.FileLists.{catalog_ids_below}
 use Rattle.soundness_unique.proofs.files.catalog_ids_below.Goals as goal
 

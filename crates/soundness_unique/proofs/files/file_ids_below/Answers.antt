@@ -1,5 +1,4 @@
 -- `file_ids_below` meets its contract: the ids of the three tables are judged one after another.
-use borrow.Author.Rules.{rules}
 use Rattle.soundness_unique.proofs.FileLists.{file_ids_below}
 use Rattle.soundness_unique.proofs.files.file_ids_below.Goals as goal
 

@@ -1,5 +1,4 @@
 -- `files_distinct` meets its contract: ids and UUIDs of all files are compared, in the scratch that they take.
-use borrow.Author.Rules.{rules}
 use Rattle.soundness_unique.proofs.FileLists.{files_apart}
 use Rattle.soundness_unique.proofs.files.files_distinct.Goals as goal
 

@@ -1,5 +1,4 @@
 -- `ids_below_next` meets its contract: the limits are the next ids of the latest snapshot.
-use borrow.Author.Rules.{rules}
 use Rattle.soundness_unique.proofs.FileLists.{ids_below}
 use Rattle.soundness_unique.proofs.files.ids_below_next.Goals as goal
 

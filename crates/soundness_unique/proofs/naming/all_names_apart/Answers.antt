@@ -1,5 +1,4 @@
 -- `all_names_apart` meets its contract: records that share a group and a name share a hash, so those left decide, and by their keys names are compared.
-use borrow.Author.Rules.{rules}
 use mathlib.Core.Path.{sym}
 use native.Mathlib.Omega.{arith}
 use lib.ListN.{length, take, length-take}

@@ -1,5 +1,4 @@
 -- `all_orders_apart` meets its contract: columns that share a table and an order share a hash, so those left decide, and by their keys orders are compared.
-use borrow.Author.Rules.{rules}
 use mathlib.Core.Path.{◌≡◌, refl, sym}
 use mathlib.Core.List.{map}
 use native.Mathlib.Omega.{arith}

@@ -1,5 +1,4 @@
 -- `column_names_apart` meets its contract: where tables ascend, no two columns are of one.
-use borrow.Author.Rules.{rules}
 use mathlib.Core.Path.{sym, ◌∙◌}
 use Rattle.soundness_unique.proofs.Ascending.{tables_ascend}
 use Rattle.soundness_unique.proofs.naming.column_names_apart.Goals as goal

@@ -1,5 +1,4 @@
 -- `group_at` meets its contract: 0 where there is one group, else what the word holds.
-use borrow.Author.Rules.{rules}
 use mathlib.Core.Path.{refl, ◌∙◌}
 use Rattle.soundness_unique.proofs.NameKeys.{group_inside}
 use Rattle.soundness_unique.proofs.naming.group_at.Goals as goal

@@ -1,13 +1,10 @@
 -- `hash_names` meets its contract: each hash is written in its turn.
-use borrow.Author.Rules.{rules}
-use Prim.Native.Nat.{◌-◌, ◌≤◌}
-use mathlib.Core.Path.{◌≡◌, refl, sym, ◌∙◌}
+use mathlib.Core.Path.{refl, sym, ◌∙◌}
 use native.Mathlib.Omega.{arith}
-use lib.ListN.{length, length-set}
-use Rattle.lists.proofs.Loops.{filled, filled_start, filled_next, filled_end, filled_whole}
+use lib.ListN.{length-set}
+use Rattle.lists.proofs.Loops.{filled_start, filled_next, filled_end, filled_whole}
 use Rattle.lists.proofs.Runs.{record_fits}
 use Rattle.layout.specs.Names.{name_size}
-use Rattle.soundness_unique.specs.Naming.{name_hash}
 use Rattle.soundness_unique.proofs.naming.hash_names.Goals as goal
 
 pub loop-p-init : goal.loop-p-init

@@ -1,12 +1,8 @@
 -- `hash_names` meets its contract: each hash is written in its turn.
-use borrow.Author.Rules.{rules}
 use Prim.Native.Nat.{◌-◌, ◌≤◌}
-use mathlib.Core.Path.{◌≡◌, refl, sym, ◌∙◌}
-use native.Mathlib.Omega.{arith}
-use lib.ListN.{length, length-set}
-use Rattle.lists.proofs.Loops.{filled, filled_start, filled_next, filled_end, filled_whole}
-use Rattle.lists.proofs.Runs.{record_fits}
-use Rattle.layout.specs.Names.{name_size}
+use mathlib.Core.Path.{◌≡◌}
+use lib.ListN.{length}
+use Rattle.lists.proofs.Loops.{filled}
 use Rattle.soundness_unique.specs.Naming.{name_hash}
 use Rattle.soundness_unique.proofs.naming.hash_names.Given as goal
 

@@ -1,5 +1,4 @@
 -- `keys_apart` meets its contract: keys are compared before lives.
-use borrow.Author.Rules.{rules}
 use mathlib.Core.Path.{refl, sym, ap, ap₂, ◌∙◌}
 use mathlib.Core.Bool.{not}
 use borrow.Author.Tests.{not-true, not-false}

@@ -1,5 +1,4 @@
 -- `name_hash` meets its contract: the digest goes on word by word.
-use borrow.Author.Rules.{rules}
 use mathlib.Core.Path.{ap, ◌∙◌}
 use mathlib.Core.Bool.{false}
 use Rattle.sorting.specs.Colliding.{hashed}

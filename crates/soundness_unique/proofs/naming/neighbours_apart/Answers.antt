@@ -1,14 +1,9 @@
 -- `neighbours_apart` meets its contract: the loop compares each two that follow each other.
-use borrow.Author.Rules.{rules}
-use Prim.Native.Nat.{◌-◌, ◌≤◌}
-use mathlib.Core.Path.{◌≡◌, refl, sym, ◌∙◌}
+use mathlib.Core.Path.{refl, sym, ◌∙◌}
 use native.Mathlib.Omega.{arith}
-use lib.ListN.{length, drop}
-use Rattle.lists.specs.Lists.{chained}
 use Rattle.lists.proofs.Tests.{passed, failed}
 use Rattle.sorting.proofs.KeyOrder.{keyed_at_lem}
 use Rattle.sorting.proofs.Passes.{chain_on, chain_stop, chain_end}
-use Rattle.soundness_unique.specs.Naming.{keys_apart}
 use Rattle.soundness_unique.proofs.naming.neighbours_apart.Goals as goal
 
 pub loop-i-init : goal.loop-i-init

@@ -1,5 +1,4 @@
 -- `orders_apart` meets its contract: where tables and orders ascend, no two columns share both.
-use borrow.Author.Rules.{rules}
 use mathlib.Core.Path.{sym, ◌∙◌}
 use Rattle.soundness_unique.proofs.Ascending.{orders_ascend}
 use Rattle.soundness_unique.proofs.naming.orders_apart.Goals as goal

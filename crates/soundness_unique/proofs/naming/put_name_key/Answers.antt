@@ -1,5 +1,4 @@
 -- `put_name_key` meets its contract: the words are written one after another.
-use borrow.Author.Rules.{rules}
 use Prim.Native.Nat.{◌*◌}
 use mathlib.Core.Path.{ap, ◌∙◌}
 use mathlib.Core.List.{[], ◌∷◌}

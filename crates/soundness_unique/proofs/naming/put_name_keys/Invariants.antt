@@ -1,13 +1,8 @@
 -- `put_name_keys` meets its contract: at every turn the places so far have their keys.
-use borrow.Author.Rules.{rules}
 use Prim.Native.Nat.{◌-◌, ◌≤◌}
-use mathlib.Core.Path.{◌≡◌, refl}
-use native.Mathlib.Omega.{arith}
+use mathlib.Core.Path.{◌≡◌}
 use lib.ListN.{length, take}
-use Rattle.sorting.proofs.KeyOrder.{keyed_at_lem}
 use Rattle.soundness_unique.specs.Naming.{name_key_size, name_key, KeysPut}
-use Rattle.soundness_unique.proofs.KeyWrites.{keys_start, keys_next, keys_end}
-use Rattle.soundness_unique.proofs.NameKeys.{name_key_length}
 use Rattle.soundness_unique.proofs.naming.put_name_keys.Given as goal
 
 abbrev pub invariant-loop-j : goal.invariant-loop-j

@@ -1,5 +1,4 @@
 -- `put_order_keys` meets its contract: a word of a key after another.
-use borrow.Author.Rules.{rules}
 use mathlib.Core.Path.{◌∙◌}
 use native.Mathlib.Omega.{arith}
 use Rattle.soundness_unique.proofs.NameKeys.{keyed_still, order_keys}

@@ -1,12 +1,7 @@
 -- `same_prefix` meets its contract: word by word.
-use borrow.Author.Rules.{rules}
 use Prim.Native.Nat.{◌+◌, ◌-◌}
-use mathlib.Core.Path.{◌≡◌, refl, sym, ◌∙◌}
-use lib.Dec.{eqb}
-use borrow.Author.Tests.{eq-eqb, ne_eqb}
+use mathlib.Core.Path.{◌≡◌}
 use Rattle.lists.specs.Runs.{from, field}
-use Rattle.lists.proofs.Loops.{from_step, from_end}
-use Rattle.lists.proofs.Windows.{agree_first_pass, agree_first_fail, agree_none}
 use Rattle.sorting.specs.Colliding.{same_prefix}
 use Rattle.sorting.specs.Keys.{same_words}
 use Rattle.soundness_unique.proofs.naming.same_prefix.Given as goal

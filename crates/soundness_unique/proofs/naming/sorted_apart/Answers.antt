@@ -1,5 +1,4 @@
 -- `sorted_apart` meets its contract: in order, those that follow each other decide.
-use borrow.Author.Rules.{rules}
 use mathlib.Core.Path.{◌∙◌}
 use Rattle.sorting.proofs.KeyOrder.{keyed_permuted}
 use Rattle.soundness_unique.proofs.LifeOrder.{lives_sorted}

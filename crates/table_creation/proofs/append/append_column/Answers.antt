@@ -1,5 +1,4 @@
 -- `append_column` meets its contract: the words that are written are those of the column's record.
-use borrow.Author.Rules.{rules}
 use Prim.Native.Nat.{ℕ, ◌+◌}
 use mathlib.Core.Path.{◌≡◌}
 use mathlib.Core.List.{List}

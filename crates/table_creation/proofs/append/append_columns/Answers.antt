@@ -1,5 +1,4 @@
 -- `append_columns` meets its contract: the records are those of the new columns, and their names are the argument's name places.
-use borrow.Author.Rules.{rules}
 use native.Mathlib.Omega.{arith}
 use Rattle.table_creation.proofs.Appends.{columns_appended}
 use Rattle.table_creation.proofs.Fits.{fit_whole, names_whole}

@@ -1,13 +1,8 @@
 -- `append_names` meets its contract: each byte of the name places is written in turn.
-use borrow.Author.Rules.{rules}
 use Prim.Native.Nat.{◌+◌, ◌*◌, ◌-◌, ◌≤◌}
-use mathlib.Core.Path.{◌≡◌, refl, sym, ◌∙◌}
-use native.Mathlib.Nat.{add-zero}
-use native.Mathlib.Omega.{arith}
-use lib.ListN.{length, drop, length-set, drop_of_length-le}
+use mathlib.Core.Path.{◌≡◌}
+use lib.ListN.{length, drop}
 use Rattle.lists.specs.Runs.{overwrite}
-use Rattle.lists.proofs.Runs.{overwrite_none}
-use Rattle.lists.proofs.Windows.{rest_step, overwrite_next}
 use Rattle.layout.specs.Names.{name_size}
 use Rattle.table_creation.proofs.append.append_names.Given as goal
 

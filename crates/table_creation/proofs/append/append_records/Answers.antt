@@ -1,18 +1,11 @@
 -- `append_records` meets its contract: each column of the argument is written in turn, behind those before it.
-use borrow.Author.Rules.{rules}
-use Prim.Native.Nat.{◌+◌, ◌-◌, ◌≤◌}
-use mathlib.Core.Path.{◌≡◌, refl, ◌∙◌}
-use mathlib.Core.List.{map}
+use mathlib.Core.Path.{refl, ◌∙◌}
 use native.Mathlib.Omega.{arith}
-use lib.ListN.{length}
-use Rattle.lists.specs.Lists.{range}
-use Rattle.lists.specs.Runs.{from}
 use Rattle.lists.proofs.Loops.{from_end}
-use Rattle.lists.proofs.Writes.{laying, laying_start, laying_next, laying_done}
+use Rattle.lists.proofs.Writes.{laying_start, laying_next, laying_done}
 use Rattle.layout.specs.Fields.{column_size}
 use Rattle.layout.specs.Records.{column_words}
 use Rattle.layout.proofs.Records.{column_lawful}
-use Rattle.table_creation.specs.Columns.{new_column_record}
 use Rattle.table_creation.proofs.append.append_records.Goals as goal
 
 pub loop-i-init : goal.loop-i-init

@@ -1,5 +1,4 @@
 -- `column_fits` meets its contract: of the column its type, its flag and its name are looked at.
-use borrow.Author.Rules.{rules}
 use Prim.Native.Nat.{ℕ}
 use mathlib.Core.Path.{◌≡◌, refl}
 use mathlib.Core.Bool.{Bool, ◌&&◌}

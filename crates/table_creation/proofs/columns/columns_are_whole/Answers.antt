@@ -1,5 +1,4 @@
 -- `columns_are_whole` meets its contract: the lengths are held against a number of columns that is in its limit.
-use borrow.Author.Rules.{rules}
 use Rattle.table_creation.proofs.Fits.{too_many, few_enough}
 use Rattle.table_creation.proofs.columns.columns_are_whole.Goals as goal
 

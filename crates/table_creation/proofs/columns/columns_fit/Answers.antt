@@ -1,5 +1,4 @@
 -- `columns_fit` meets its contract: a whole argument is judged column by column, then name against name.
-use borrow.Author.Rules.{rules}
 use Rattle.lists.proofs.Tests.{passed, failed}
 use Rattle.table_creation.proofs.Fits.{whole_lent, columns_ragged, columns_judged}
 use Rattle.table_creation.proofs.columns.columns_fit.Goals as goal

@@ -1,12 +1,9 @@
 -- `each_column_fits` meets its contract: the loop goes on while the columns are well formed.
-use borrow.Author.Rules.{rules}
 use Prim.Native.Nat.{ℕ, ◌-◌, ◌≤◌}
-use mathlib.Core.Path.{◌≡◌, sym, ◌∙◌}
+use mathlib.Core.Path.{◌≡◌}
 use mathlib.Core.List.{map}
-use native.Mathlib.Omega.{arith}
 use Rattle.lists.specs.Lists.{range, all}
 use Rattle.lists.specs.Runs.{from}
-use Rattle.lists.proofs.Loops.{all_start, all_passed, all_failed, all_end}
 use Rattle.ducklake.specs.Arguments.{column_argument, column_fits}
 use Rattle.table_creation.proofs.columns.each_column_fits.Given as goal
 

@@ -1,13 +1,10 @@
 -- `name_is_apart` meets its contract: the loop goes on while no later name clashes.
-use borrow.Author.Rules.{rules}
 use Prim.Native.Nat.{ℕ, ◌+◌, ◌-◌, ◌≤◌}
-use mathlib.Core.Path.{◌≡◌, refl, sym, ap, ◌∙◌}
+use mathlib.Core.Path.{◌≡◌}
 use mathlib.Core.Bool.{Bool, not}
 use mathlib.Core.List.{List}
-use native.Mathlib.Omega.{arith}
 use Rattle.lists.specs.Lists.{all}
 use Rattle.lists.specs.Runs.{from}
-use Rattle.lists.proofs.Loops.{all_pass, all_fail, all_end}
 use Rattle.layout.specs.Names.{name_at}
 use Rattle.ducklake.specs.Arguments.{clashes, column_argument}
 use Rattle.table_creation.proofs.columns.name_is_apart.Given as goal

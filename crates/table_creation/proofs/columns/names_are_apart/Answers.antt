@@ -1,17 +1,8 @@
 -- `names_are_apart` meets its contract: the loop compares each name with the later ones.
-use borrow.Author.Rules.{rules}
-use Prim.Native.Nat.{ℕ, ◌-◌, ◌≤◌}
-use mathlib.Core.Path.{◌≡◌, sym, ◌∙◌}
-use mathlib.Core.Bool.{Bool, not}
-use mathlib.Core.List.{List, map}
+use mathlib.Core.Path.{sym, ◌∙◌}
 use native.Mathlib.Omega.{arith}
-use Rattle.lists.specs.Lists.{range, pairwise}
-use Rattle.lists.specs.Runs.{from}
 use Rattle.lists.proofs.Loops.{pairwise_start, pairwise_pass, pairwise_fail, pairwise_end}
 use Rattle.lists.proofs.Tests.{passed, failed}
-use Rattle.layout.specs.Catalog.{Column}
-use Rattle.ducklake.specs.Arguments.{clashes, column_argument}
-use Rattle.table_creation.proofs.columns.names_are_apart.Invariants.{apart}
 use Rattle.table_creation.proofs.columns.names_are_apart.Goals as goal
 
 pub loop-i-init : goal.loop-i-init

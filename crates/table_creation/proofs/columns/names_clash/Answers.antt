@@ -1,5 +1,4 @@
 -- `names_clash` meets its contract: two names clash where their bytes are the same.
-use borrow.Author.Rules.{rules}
 use Rattle.ducklake.specs.Arguments.{clashes}
 use Rattle.table_creation.proofs.columns.names_clash.Goals as goal
 

@@ -1,5 +1,4 @@
 -- `table_added` meets its contract: it is the definition, with as many columns as the argument has.
-use borrow.Author.Rules.{rules}
 use mathlib.Core.Path.{ap}
 use Rattle.table_creation.specs.TableRoom.{table_added}
 use Rattle.table_creation.proofs.room.table_added.Goals as goal

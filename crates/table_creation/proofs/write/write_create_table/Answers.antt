@@ -1,5 +1,4 @@
 -- `write_create_table` meets its contract: the snapshot, the table and the columns that are appended are those of the effect.
-use borrow.Author.Rules.{rules}
 use Rattle.table_creation.proofs.Effects.{create_table_stored}
 use Rattle.table_creation.proofs.TableRoom.{columns_room_as}
 use Rattle.table_creation.proofs.write.write_create_table.Goals as goal
