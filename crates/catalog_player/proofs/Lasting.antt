@@ -18,7 +18,7 @@ use Rattle.ducklake.specs.Commits.{fresh_catalog}
 use Rattle.ducklake.specs.Calls.{Call, effect, has_room, Result, perform, perform_fresh, Reading, reading_refusal, perform_reading, Promise}
 use Rattle.ducklake.specs.Lookup.{lookup_refusal, perform_lookup}
 use Rattle.ducklake.specs.Claim.{fresh_state}
-use Rattle.ducklake.specs.Observed.{Request, calls, reads, looks_up, perform_request}
+use Rattle.ducklake.specs.Observed.{calls, reads, looks_up}
 use Rattle.ducklake.proofs.facts.Facts.{Sound, reflects_sound}
 use Rattle.ducklake.proofs.commits.Good.{Chain}
 use Rattle.ducklake.proofs.claim.Tables.{named}

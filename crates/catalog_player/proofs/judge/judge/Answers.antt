@@ -1,5 +1,4 @@
 -- `judge` meets its contract: what lasts is handed on, and anything else is what the check gives.
-use borrow.Author.Rules.{rules}
 use mathlib.Core.Path.{refl}
 use Rattle.chaining.proofs.Checkable.{checkable}
 use Rattle.catalog_player.proofs.Lasting.{none_lasts, found_sound, newly_lasts}

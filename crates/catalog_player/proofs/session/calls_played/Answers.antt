@@ -1,5 +1,4 @@
 -- As many records as both runs have room for, up to the first that asks for nothing.
-use borrow.Author.Rules.{rules}
 use mathlib.Core.Path.{◌∙◌, ap}
 use native.Mathlib.Omega.{arith}
 use lib.ListN.{length}

@@ -1,13 +1,9 @@
 -- `catalog_play` meets its contract: each call is played on what the one before left, and told behind it.
-use borrow.Author.Rules.{rules}
-use Prim.Native.Nat.{◌-◌}
 use native.Mathlib.Omega.{arith}
-use Rattle.layout.specs.Words.{lent}
 use Rattle.call_lists.specs.Calls.{asked_of}
 use Rattle.call_lists.proofs.Sessions.{played_spans, answer_fits, session_whole}
-use Rattle.catalog_player.specs.Lasting.{Lasting}
 use Rattle.catalog_player.proofs.Lasting.{none_lasts, lasts}
-use Rattle.catalog_player.proofs.Held.{Held, held_start, held_next, lengths_kept, as_long}
+use Rattle.catalog_player.proofs.Held.{held_start, held_next, lengths_kept, as_long}
 use Rattle.catalog_player.proofs.session.catalog_play.Goals as goal
 
 pub loop-i-init : goal.loop-i-init
@@ -62,10 +58,10 @@ pub loop-i-preserved : goal.loop-i-preserved
 loop-i-preserved c =
     let k = c.play-outcome.auto in
     let same = lengths_kept _ _ (Unit {0}) (k.snapshots, (k.schemas, (k.schema_names, (k.tables, (k.table_names, (k.columns, (k.column_names, (k.data_files, (k.delete_files, (k.positions, (k.statistics, (k.scheduled, tt)))))))))))) in (
-  held_next _ _ _ _ _ _ _ c.loop-i.invariant.0 c.loop-i-test.true c.calls_played-n.ensures.2 c.call_at-call.ensures c.play-outcome.ensures
-      same c.play-outcome.auto.area c.write_outcome.ensures c.write_outcome.auto.w,
-  lasts (asked_of _ _ _) _ _ _ c.play-outcome.ensures same c.judge-judged.ensures.1,
-)
+      held_next _ _ _ _ _ _ _ c.loop-i.invariant.0 c.loop-i-test.true c.calls_played-n.ensures.2 c.call_at-call.ensures c.play-outcome.ensures
+          same c.play-outcome.auto.area c.write_outcome.ensures c.write_outcome.auto.w,
+      lasts (asked_of _ _ _) _ _ _ c.play-outcome.ensures same c.judge-judged.ensures.1,
+    )
 
 pub shape_of-snapshots : goal.shape_of-snapshots
 shape_of-snapshots c = as_long 0 c.loop-i.invariant.0.runs

@@ -1,13 +1,8 @@
 -- `catalog_play` meets its contract: each call is played on what the one before left, and told behind it.
-use borrow.Author.Rules.{rules}
 use Prim.Native.Nat.{◌-◌}
-use native.Mathlib.Omega.{arith}
 use Rattle.layout.specs.Words.{lent}
-use Rattle.call_lists.specs.Calls.{asked_of}
-use Rattle.call_lists.proofs.Sessions.{played_spans, answer_fits, session_whole}
 use Rattle.catalog_player.specs.Lasting.{Lasting}
-use Rattle.catalog_player.proofs.Lasting.{none_lasts, lasts}
-use Rattle.catalog_player.proofs.Held.{Held, held_start, held_next, lengths_kept, as_long}
+use Rattle.catalog_player.proofs.Held.{Held}
 use Rattle.catalog_player.proofs.session.catalog_play.Given as goal
 
 abbrev pub invariant-loop-i : goal.invariant-loop-i
