@@ -1,7 +1,7 @@
 -- Runs cut into consecutive pieces, and what compaction leaves of them.
 use Rattle.std.specs.Prelude.{ℕ, suc, ◌+◌, ◌*◌, ◌<◌, ◌≡◌, Bool, eqb, get_or, take, drop}
 use mathlib.Core.List.{List, map, flat_map}
-use Rattle.std.proofs.Common.{arith, mul-zero}
+use Rattle.std.proofs.Common.{mul-zero, mul-suc}
 use Rattle.lists.specs.Lists.{range, filter, sum}
 use Rattle.lists.specs.Runs.{replace}
 
@@ -17,7 +17,7 @@ piece P w j = take (P.size j) (drop (P.start j) w)
 
 -- records of one size
 abbrev pub row_pieces : ℕ → Pieces
-row_pieces size = record { size = λ _. size; start = λ i. size * i; first = mul-zero size; then = λ j. omega arith }
+row_pieces size = record { size = λ _. size; start = λ i. size * i; first = mul-zero size; then = mul-suc size }
 
 -- of n pieces those whose places pass q: how many words they are, and the run, in which gaps are closed and freed places 0
 pub record Compacted (P : Pieces) (q : ℕ → Bool) (n : ℕ) (w : List ℕ) (r : ℕ) (w' : List ℕ) : Type 0 where
