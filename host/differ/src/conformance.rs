@@ -38,6 +38,13 @@ fn given(played: &Played) -> Line {
     Line::Given(words)
 }
 
+/// The name that a list of cases has for suppliers: its words run together, as in `soundFields`.
+fn published(name: &str) -> String {
+    let mut words = name.split('_');
+    let first = words.next().unwrap_or_default().to_string();
+    words.fold(first, |name, word| name + &word[..1].to_uppercase() + &word[1..])
+}
+
 /// Writes all the lists into a folder, from the cases in the other.
 pub fn write(cases: &str, folder: &str) -> Result<String, String> {
     fs::create_dir_all(folder).map_err(|e| format!("{folder}: {e}"))?;
@@ -49,8 +56,8 @@ pub fn write(cases: &str, folder: &str) -> Result<String, String> {
     };
     let found = Folder::read(cases)?;
     for list in &found.lists {
-        let about = format!("the cases of {}", list.name);
-        put(&format!("cases-{}", list.name), &about, &from_cases::lines(&found, list)?)?;
+        let name = published(&list.name);
+        put(&format!("cases-{name}"), &format!("the cases of {name}"), &from_cases::lines(&found, list)?)?;
     }
     put("diary", "the diary session, with the cases of it that are marked and those that are not", &unmarked::lines())?;
     let (first, count, calls) = RANDOM;
