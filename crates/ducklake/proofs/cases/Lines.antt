@@ -27,18 +27,18 @@
 --
 -- The calls, with their arguments:
 --
---   fresh: time                                    list_schemas: snapshot
---   create_schema: time, bytes of the name          list_tables: snapshot, schema
---   create_table: time, schema, name, types and     list_columns: snapshot, table
---     flags of the columns after the number of     table_by_name: snapshot, schema, bytes of the name
---     these words, names of the columns            list_files: snapshot, table
---   insert: time, table, record count, UUID high   list_filtered_files: snapshot, table, column, scalar
---     and low, statistics ..                       list_rows: snapshot, table
---   delete: time, data file, UUID high and low,    snapshot_by_time: t
---     positions ..                                 copy_file: file
---   drop_schema: time, schema                       find_file: file; the answer stands for the part, and is the run
---   drop_table: time, table                           that it lies in and the word where it begins
---   expire: time, snapshots ..                     path_of_file: UUID high and low; the answer is its bytes
+--   fresh: time                                   list_schemas: snapshot
+--   create_schema: time, bytes of the name        list_tables: snapshot, schema
+--   create_table: time, schema, name, types and   list_columns: snapshot, table
+--     flags of the columns after the number of    table_by_name: snapshot, schema, bytes of the name
+--     these words, names of the columns           list_files: snapshot, table
+--   insert: time, table, record count, UUID high  list_filtered_files: snapshot, table, column, scalar
+--     and low, statistics ..                      list_rows: snapshot, table
+--   delete: time, data file, UUID high and low,   snapshot_by_time: t
+--     positions ..                                copy_file: file
+--   drop_schema: time, schema                     find_file: file; the answer stands for the part, and is the run
+--   drop_table: time, table                         that it lies in and the word where it begins
+--   expire: time, snapshots ..                    path_of_file: UUID high and low; the answer is its bytes
 --   cleanup: t
 use Prim.Native.Nat.{ℕ, zero, suc, ◌+◌, ◌*◌, ◌-◌, ◌/◌, ◌%◌, ◌^◌}
 use mathlib.Core.Bool.{Bool, not, cond, ◌&&◌, ◌||◌}
