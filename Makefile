@@ -5,8 +5,8 @@
 help:
 	@awk -F ' *## *' '/^[a-z-]+:.*##/ { sub(/:.*/, "", $$1); printf "make %-12s %s\n", $$1, $$2 }' $(firstword $(MAKEFILE_LIST))
 
-# Proves every crate from nothing, tries the must-fail edits, runs the programs and the scripts of tests/.
-test: ## prove everything from nothing, try the must-fail edits, run the tests: about 25 minutes
+# Proves every crate, from nothing where this machine has not proved it yet, tries the must-fail edits, runs the programs and the scripts of tests/.
+test: ## prove every crate, try the must-fail edits, run the tests: about 25 minutes
 	@sh tests/run
 
 # Every must-fail edit, those that the gate has no time for too.

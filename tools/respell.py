@@ -3,10 +3,11 @@
 
 usage: python3 tools/respell.py [--dry]      at the top of the checkout
 
-A name that a file of specs/ or proofs/ declares, with a dash or a capital inside, becomes a word in snake case: `first-from`
-and `firstFrom` become `first_from`. Types and modules keep their camel case, and names of Rattle source, strings and what the
-toolchain makes keep theirs. Where a definition and a lemma would fall together, the lemma ends in `_lem`. A name that the
-library has, too, with the same dash stays as it is.
+A name that a file of specs/ or proofs/ declares, with a dash or a capital inside, becomes a word in snake case:
+`first-from` and `firstFrom` become `first_from`. Types and modules keep their camel case, and names of Rattle source,
+strings and what the toolchain makes keep theirs. Where a definition and a lemma would fall together, the lemma ends in
+`_lem`, but for those that port.py had spelled so before. A name that the library has, too, with the same dash stays as
+it is.
 """
 
 import glob

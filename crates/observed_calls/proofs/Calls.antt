@@ -5,19 +5,19 @@ use Rattle.ducklake.specs.Calls.{commit_at, expire_snapshots, clean_up}
 use Rattle.ducklake.specs.Observed.{calls}
 use Rattle.observed_calls.specs.Seen.{besides, EntersBy}
 use Rattle.observed_calls.proofs.Contracts.{Fact, Ensuring, follows, enters}
-use Rattle.catalog_creates.specs.contracts.create_schema.catalog_create_schema as create_schema_lem
+use Rattle.catalog_creates.specs.contracts.create_schema.catalog_create_schema as create_schema_call
 use Rattle.catalog_creates.proofs.create_schema.catalog_create_schema.Statement as create_schema_stated
 use Rattle.catalog_creates.proofs.create_schema.catalog_create_schema.Met as create_schema_met
 use Rattle.catalog_creates.proofs.create_schema.catalog_create_schema.Symbol as create_schema_symbol
-use Rattle.catalog_creates.specs.contracts.create_table.catalog_create_table as create_table_lem
+use Rattle.catalog_creates.specs.contracts.create_table.catalog_create_table as create_table_call
 use Rattle.catalog_creates.proofs.create_table.catalog_create_table.Statement as create_table_stated
 use Rattle.catalog_creates.proofs.create_table.catalog_create_table.Met as create_table_met
 use Rattle.catalog_creates.proofs.create_table.catalog_create_table.Symbol as create_table_symbol
-use Rattle.catalog_drops.specs.contracts.drop_schema.catalog_drop_schema as drop_schema_lem
+use Rattle.catalog_drops.specs.contracts.drop_schema.catalog_drop_schema as drop_schema_call
 use Rattle.catalog_drops.proofs.drop_schema.catalog_drop_schema.Statement as drop_schema_stated
 use Rattle.catalog_drops.proofs.drop_schema.catalog_drop_schema.Met as drop_schema_met
 use Rattle.catalog_drops.proofs.drop_schema.catalog_drop_schema.Symbol as drop_schema_symbol
-use Rattle.catalog_drops.specs.contracts.drop_table.catalog_drop_table as drop_table_lem
+use Rattle.catalog_drops.specs.contracts.drop_table.catalog_drop_table as drop_table_call
 use Rattle.catalog_drops.proofs.drop_table.catalog_drop_table.Statement as drop_table_stated
 use Rattle.catalog_drops.proofs.drop_table.catalog_drop_table.Met as drop_table_met
 use Rattle.catalog_drops.proofs.drop_table.catalog_drop_table.Symbol as drop_table_symbol
@@ -39,48 +39,48 @@ use Rattle.catalog_maintenance.proofs.clean_up.catalog_cleanup.Met as cleanup_me
 use Rattle.catalog_maintenance.proofs.clean_up.catalog_cleanup.Symbol as cleanup_symbol
 
 -- `catalog_create_schema`
-abbrev pub CreateSchemaEnters : Fact create_schema_lem.ended
+abbrev pub CreateSchemaEnters : Fact create_schema_call.ended
 CreateSchemaEnters κs a r s =
     let (counts, (terms, (name, (area, end)))) = besides a in
     EntersBy (calls (commit_at terms (create_schema name.now))) counts a area r s (besides s).1.1.1.0
 
-pub create_schema_enters : {M : Type 1} → Ensuring {M = M} create_schema_lem.ended (λ 𝓤 𝓛. create_schema_lem.clauses 𝓛) create_schema_symbol.code create_schema_symbol.name CreateSchemaEnters
+pub create_schema_enters : {M : Type 1} → Ensuring {M = M} create_schema_call.ended (λ 𝓤 𝓛. create_schema_call.clauses 𝓛) create_schema_symbol.code create_schema_symbol.name CreateSchemaEnters
 create_schema_enters {M} =
     let met : create_schema_stated.statement M = create_schema_met.met in
-    follows create_schema_lem.ended (λ 𝓤 𝓛. create_schema_lem.clauses 𝓛) create_schema_symbol.code create_schema_symbol.name CreateSchemaEnters (λ 𝓤 𝓛 mem run κs a g r s. fact_mono 𝓤 _ _ (λ p. enters p)) met
+    follows create_schema_call.ended (λ 𝓤 𝓛. create_schema_call.clauses 𝓛) create_schema_symbol.code create_schema_symbol.name CreateSchemaEnters (λ 𝓤 𝓛 mem run κs a g r s. fact_mono 𝓤 _ _ (λ p. enters p)) met
 
 -- `catalog_create_table`
-abbrev pub CreateTableEnters : Fact create_table_lem.ended
+abbrev pub CreateTableEnters : Fact create_table_call.ended
 CreateTableEnters κs a r s =
     let (counts, (terms, (schema, (name, (columns, (names, (area, end))))))) = besides a in
     EntersBy (calls (commit_at terms (create_table schema.0 name.now columns.now names.now))) counts a area r s (besides s).1.1.1.1.1.1.0
 
-pub create_table_enters : {M : Type 1} → Ensuring {M = M} create_table_lem.ended (λ 𝓤 𝓛. create_table_lem.clauses 𝓛) create_table_symbol.code create_table_symbol.name CreateTableEnters
+pub create_table_enters : {M : Type 1} → Ensuring {M = M} create_table_call.ended (λ 𝓤 𝓛. create_table_call.clauses 𝓛) create_table_symbol.code create_table_symbol.name CreateTableEnters
 create_table_enters {M} =
     let met : create_table_stated.statement M = create_table_met.met in
-    follows create_table_lem.ended (λ 𝓤 𝓛. create_table_lem.clauses 𝓛) create_table_symbol.code create_table_symbol.name CreateTableEnters (λ 𝓤 𝓛 mem run κs a g r s. fact_mono 𝓤 _ _ (λ p. enters p)) met
+    follows create_table_call.ended (λ 𝓤 𝓛. create_table_call.clauses 𝓛) create_table_symbol.code create_table_symbol.name CreateTableEnters (λ 𝓤 𝓛 mem run κs a g r s. fact_mono 𝓤 _ _ (λ p. enters p)) met
 
 -- `catalog_drop_schema`
-abbrev pub DropSchemaEnters : Fact drop_schema_lem.ended
+abbrev pub DropSchemaEnters : Fact drop_schema_call.ended
 DropSchemaEnters κs a r s =
     let (counts, (terms, (schema, (area, end)))) = besides a in
     EntersBy (calls (commit_at terms (drop_schema schema.0))) counts a area r s (besides s).1.1.1.0
 
-pub drop_schema_enters : {M : Type 1} → Ensuring {M = M} drop_schema_lem.ended (λ 𝓤 𝓛. drop_schema_lem.clauses 𝓛) drop_schema_symbol.code drop_schema_symbol.name DropSchemaEnters
+pub drop_schema_enters : {M : Type 1} → Ensuring {M = M} drop_schema_call.ended (λ 𝓤 𝓛. drop_schema_call.clauses 𝓛) drop_schema_symbol.code drop_schema_symbol.name DropSchemaEnters
 drop_schema_enters {M} =
     let met : drop_schema_stated.statement M = drop_schema_met.met in
-    follows drop_schema_lem.ended (λ 𝓤 𝓛. drop_schema_lem.clauses 𝓛) drop_schema_symbol.code drop_schema_symbol.name DropSchemaEnters (λ 𝓤 𝓛 mem run κs a g r s. fact_mono 𝓤 _ _ (λ p. enters p)) met
+    follows drop_schema_call.ended (λ 𝓤 𝓛. drop_schema_call.clauses 𝓛) drop_schema_symbol.code drop_schema_symbol.name DropSchemaEnters (λ 𝓤 𝓛 mem run κs a g r s. fact_mono 𝓤 _ _ (λ p. enters p)) met
 
 -- `catalog_drop_table`
-abbrev pub DropTableEnters : Fact drop_table_lem.ended
+abbrev pub DropTableEnters : Fact drop_table_call.ended
 DropTableEnters κs a r s =
     let (counts, (terms, (table, (area, end)))) = besides a in
     EntersBy (calls (commit_at terms (drop_table table.0))) counts a area r s (besides s).1.1.1.0
 
-pub drop_table_enters : {M : Type 1} → Ensuring {M = M} drop_table_lem.ended (λ 𝓤 𝓛. drop_table_lem.clauses 𝓛) drop_table_symbol.code drop_table_symbol.name DropTableEnters
+pub drop_table_enters : {M : Type 1} → Ensuring {M = M} drop_table_call.ended (λ 𝓤 𝓛. drop_table_call.clauses 𝓛) drop_table_symbol.code drop_table_symbol.name DropTableEnters
 drop_table_enters {M} =
     let met : drop_table_stated.statement M = drop_table_met.met in
-    follows drop_table_lem.ended (λ 𝓤 𝓛. drop_table_lem.clauses 𝓛) drop_table_symbol.code drop_table_symbol.name DropTableEnters (λ 𝓤 𝓛 mem run κs a g r s. fact_mono 𝓤 _ _ (λ p. enters p)) met
+    follows drop_table_call.ended (λ 𝓤 𝓛. drop_table_call.clauses 𝓛) drop_table_symbol.code drop_table_symbol.name DropTableEnters (λ 𝓤 𝓛 mem run κs a g r s. fact_mono 𝓤 _ _ (λ p. enters p)) met
 
 -- `catalog_insert`
 abbrev pub InsertEnters : Fact insert_call.ended

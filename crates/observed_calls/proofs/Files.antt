@@ -25,7 +25,7 @@ use Rattle.readings.specs.Answers.{Answered}
 use Rattle.file_lookup.proofs.Places.{copy_refused, copy_answered}
 use Rattle.observed_calls.specs.Seen.{words_in, words_read, besides, Enters, Starts}
 use Rattle.observed_calls.proofs.Contracts.{Fact, Ensuring, follows, enters}
-use Rattle.catalog_check.specs.contracts.line.catalog_first_unsound as first_unsound_lem
+use Rattle.catalog_check.specs.contracts.line.catalog_first_unsound as first_unsound_call
 use Rattle.catalog_check.proofs.line.catalog_first_unsound.Statement as first_unsound_stated
 use Rattle.catalog_check.proofs.line.catalog_first_unsound.Met as first_unsound_met
 use Rattle.catalog_check.proofs.line.catalog_first_unsound.Symbol as first_unsound_symbol
@@ -33,19 +33,19 @@ use Rattle.catalog_fresh.specs.contracts.fresh.catalog_fresh as fresh
 use Rattle.catalog_fresh.proofs.fresh.catalog_fresh.Statement as fresh_stated
 use Rattle.catalog_fresh.proofs.fresh.catalog_fresh.Met as fresh_met
 use Rattle.catalog_fresh.proofs.fresh.catalog_fresh.Symbol as fresh_symbol
-use Rattle.catalog_readings.specs.contracts.file.catalog_find_file as find_file_lem
+use Rattle.catalog_readings.specs.contracts.file.catalog_find_file as find_file_call
 use Rattle.catalog_readings.proofs.file.catalog_find_file.Statement as find_file_stated
 use Rattle.catalog_readings.proofs.file.catalog_find_file.Met as find_file_met
 use Rattle.catalog_readings.proofs.file.catalog_find_file.Symbol as find_file_symbol
 
 -- `catalog_first_unsound`
-abbrev pub FirstUnsound : Fact first_unsound_lem.ended
+abbrev pub FirstUnsound : Fact first_unsound_call.ended
 FirstUnsound κs a r s = r ≡ first_unsound (words_read a) (besides a).0
 
-pub first_unsound_tells : {M : Type 1} → Ensuring {M = M} first_unsound_lem.ended (λ 𝓤 𝓛. first_unsound_lem.clauses 𝓛) first_unsound_symbol.code first_unsound_symbol.name FirstUnsound
+pub first_unsound_tells : {M : Type 1} → Ensuring {M = M} first_unsound_call.ended (λ 𝓤 𝓛. first_unsound_call.clauses 𝓛) first_unsound_symbol.code first_unsound_symbol.name FirstUnsound
 first_unsound_tells {M} =
     let met : first_unsound_stated.statement M = first_unsound_met.met in
-    follows first_unsound_lem.ended (λ 𝓤 𝓛. first_unsound_lem.clauses 𝓛) first_unsound_symbol.code first_unsound_symbol.name FirstUnsound (λ 𝓤 𝓛 mem run κs a g r s. fact_mono 𝓤 _ _ (λ p. p)) met
+    follows first_unsound_call.ended (λ 𝓤 𝓛. first_unsound_call.clauses 𝓛) first_unsound_symbol.code first_unsound_symbol.name FirstUnsound (λ 𝓤 𝓛 mem run κs a g r s. fact_mono 𝓤 _ _ (λ p. p)) met
 
 -- `catalog_fresh`
 abbrev pub FreshStarts : Fact fresh.ended
@@ -57,7 +57,7 @@ fresh_starts {M} =
     follows fresh.ended (λ 𝓤 𝓛. fresh.clauses 𝓛) fresh_symbol.code fresh_symbol.name FreshStarts (λ 𝓤 𝓛 mem run κs a g r s. fact_mono 𝓤 _ _ (λ p. record { promise = p; claim = observed _ _ _ _ _ _ _ p })) met
 
 -- `catalog_find_file`: the part is the answer that the lookup as a call gives on an area as long as it
-abbrev pub FindFileEnters : Fact find_file_lem.ended
+abbrev pub FindFileEnters : Fact find_file_call.ended
 FindFileEnters κs a r s =
     let (counts, (id, (number, end))) = besides a in
     Enters (looks_up id.0) (words_read a) counts r.now (record { number = (besides s).1.1.0.now; place = 0; length = length r.now; counts = counts }) (words_read a) r.now
@@ -86,7 +86,7 @@ module _ (w : Words) (c : Counts) (k : ℕ) (a b part : Bor (List ℕ)) (e : w.d
       (λ h. let z : n ≡ 0 → ⊥ = λ q. clash (eq-eqb n 0 q) h in
       rw (ap length (none_there z)) (copy_refused w c k a b part e f l part.now z))
 
-pub find_file_enters : {M : Type 1} → Ensuring {M = M} find_file_lem.ended (λ 𝓤 𝓛. find_file_lem.clauses 𝓛) find_file_symbol.code find_file_symbol.name FindFileEnters
+pub find_file_enters : {M : Type 1} → Ensuring {M = M} find_file_call.ended (λ 𝓤 𝓛. find_file_call.clauses 𝓛) find_file_symbol.code find_file_symbol.name FindFileEnters
 find_file_enters {M} =
     let met : find_file_stated.statement M = find_file_met.met in
-    follows find_file_lem.ended (λ 𝓤 𝓛. find_file_lem.clauses 𝓛) find_file_symbol.code find_file_symbol.name FindFileEnters (λ 𝓤 𝓛 mem run κs a g r s. fact_mono 𝓤 _ _ (λ p. enters (found-is _ _ _ _ _ _ refl refl p))) met
+    follows find_file_call.ended (λ 𝓤 𝓛. find_file_call.clauses 𝓛) find_file_symbol.code find_file_symbol.name FindFileEnters (λ 𝓤 𝓛 mem run κs a g r s. fact_mono 𝓤 _ _ (λ p. enters (found-is _ _ _ _ _ _ refl refl p))) met
