@@ -4,7 +4,7 @@ ghost use Rattle.ducklake.specs.Calls.{Promised};
 ghost use Rattle.refusals.specs.Checked.{checked_of};
 ghost use Rattle.call_lists.specs.Calls.{perform_asked, asked_of, spans_fit};
 
-use call_lists::part::{bytes_of, words_of};
+use call_lists::part::part_of;
 use call_lists::record::{CallRecord, EXPIRED_SNAPSHOTS, MADE_FRESH, is_reading};
 use catalog_fresh::start::start;
 use cleanup::clean::clean_up;
@@ -14,6 +14,7 @@ use layout::record::{
     CREATED_SCHEMA, CREATED_TABLE, DELETED_FROM_TABLE, DROPPED_SCHEMA, DROPPED_TABLE,
     INSERTED_INTO_TABLE,
 };
+use layout::tables::Tables;
 use reading_dispatch::read::read;
 use refusals::checked::Checked;
 use row_deletion::delete::delete_rows;
@@ -23,6 +24,7 @@ use snapshot_expiry::expire::expire_snapshots;
 use table_creation::create::create_table;
 
 // Plays what a record of a list asks for, on checked tables. A list ends before a record that asks for nothing, so that what is left is a cleanup.
+// The runs one by one: the clause says of each what it holds at the end, and each operation takes only those that it reads or writes.
 pub fn play(
     checked: Checked,
     snapshots: &mut [u64],
@@ -53,8 +55,7 @@ pub fn play(
 {
     let kind = call.kind;
     if is_reading(kind) {
-        return read(
-            checked,
+        let lent = Tables {
             snapshots,
             schemas,
             schema_names,
@@ -67,16 +68,13 @@ pub fn play(
             positions,
             statistics,
             scheduled,
-            counts,
-            names,
-            call,
-            area,
-        );
+        };
+        return read(checked, lent, counts, names, call, area);
     }
     let terms = Terms { time: call.time };
     match kind {
         CREATED_SCHEMA => {
-            let name = bytes_of(names, call.name);
+            let name = part_of(names, call.name);
             create_schema(
                 checked,
                 snapshots,
@@ -88,9 +86,9 @@ pub fn play(
             )
         }
         CREATED_TABLE => {
-            let name = bytes_of(names, call.name);
-            let new_columns = words_of(lists, call.words);
-            let new_column_names = bytes_of(names, call.names);
+            let name = part_of(names, call.name);
+            let new_columns = part_of(lists, call.words);
+            let new_column_names = part_of(names, call.names);
             create_table(
                 checked,
                 snapshots,
@@ -132,7 +130,7 @@ pub fn play(
             )
         }
         INSERTED_INTO_TABLE => {
-            let new_statistics = words_of(lists, call.words);
+            let new_statistics = part_of(lists, call.words);
             insert_rows(
                 checked,
                 snapshots,
@@ -151,7 +149,7 @@ pub fn play(
             )
         }
         DELETED_FROM_TABLE => {
-            let new_positions = words_of(lists, call.words);
+            let new_positions = part_of(lists, call.words);
             delete_rows(
                 checked,
                 snapshots,
@@ -167,7 +165,7 @@ pub fn play(
             )
         }
         EXPIRED_SNAPSHOTS => {
-            let ids = words_of(lists, call.words);
+            let ids = part_of(lists, call.words);
             expire_snapshots(
                 checked,
                 snapshots,

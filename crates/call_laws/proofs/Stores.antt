@@ -9,7 +9,7 @@ use native.Mathlib.Nat.{zero-add}
 use lib.Dec.{eqb}
 use lib.ListN.{length, take, get_or, set, length-append, length-map}
 use Rattle.lists.specs.Lists.{range, filter}
-use Rattle.lists.specs.Runs.{Layout, at, overwrite, replace, set_where, each_record}
+use Rattle.lists.specs.Runs.{Layout, at, overwrite, replace, replace_by, set_where, each_record}
 use Rattle.lists.proofs.Tests.{both}
 use Rattle.lists.proofs.Members.{In, in_range_lem}
 use Rattle.lists.proofs.Selections.{flat_map_append, flat_map_map, map-append}
@@ -42,7 +42,7 @@ use Rattle.layout.proofs.RoundTrip.{counts_load}
 
 -- as many words or more than were in use: nothing is freed
 pub replace_over : (old : List ℕ) (used : ℕ) (new : List ℕ) → used ≤ length new → replace old used new ≡ overwrite old 0 new
-unfolding replace overwrite
+unfolding replace_by overwrite
 replace_over old used new h = rw (none, end, zero-add) refl
   where
     none : used - length new ≡ 0

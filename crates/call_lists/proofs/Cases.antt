@@ -101,7 +101,7 @@ kinds : (expired_snapshots ∷ cleaned_up ∷ made_fresh ∷ listed_schemas ∷ 
 kinds = refl
 
 -- a span up to the run's last word, in the middle, of no word at the run's end
-parts : (part (7 ∷ 8 ∷ 9 ∷ []) (span_of 1 2) ≡ 8 ∷ 9 ∷ []) × (part (7 ∷ 8 ∷ 9 ∷ []) (span_of 1 1) ≡ 8 ∷ []) × (part (7 ∷ 8 ∷ 9 ∷ []) (span_of 3 0) ≡ [])
+parts : (part {A = ℕ} (7 ∷ 8 ∷ 9 ∷ []) (span_of 1 2) ≡ 8 ∷ 9 ∷ []) × (part {A = ℕ} (7 ∷ 8 ∷ 9 ∷ []) (span_of 1 1) ≡ 8 ∷ []) × (part {A = ℕ} (7 ∷ 8 ∷ 9 ∷ []) (span_of 3 0) ≡ [])
 parts = (refl, refl, refl)
 
 -- its words end at 3, its name at 1, its names at 4: runs just as long, and each one shorter

@@ -1,12 +1,11 @@
 -- How many records come before the first that asks for nothing: a loop that looks for it, what each of them is, and that both runs have room for as many.
+use Rattle.std.specs.Prelude.{None, Option, Some}
 use Prim.Native.Nat.{ℕ, ◌+◌, ◌*◌, ◌/◌, ◌≤◌, ◌<◌, min}
 use mathlib.Core.Path.{◌≡◌, refl, sym, ap, ◌∙◌}
 use mathlib.Core.Bool.{Bool, true, false, not}
 use mathlib.Core.List.{List, map}
 use native.Mathlib.Omega.{arith}
 use lib.ListN.{length}
-use Rattle.lists.specs.declared.Found.{Found}
-use Rattle.lists.specs.declared.Found.TheVariants.{At, Nothing}
 use Rattle.lists.specs.Lists.{range, place}
 use Rattle.lists.specs.Runs.{from}
 use Rattle.lists.proofs.Loops.{place-start, place_hit, place_miss, place_end}
@@ -27,20 +26,20 @@ module _ (w : List ℕ) (lists_size names_size n : ℕ) where
   pub looking_start : Looking 0
   looking_start = place-start asks_at not n
 
-  pub looking_next : (i : ℕ) {b : Bool} → i < n → b ≡ asks_at i → not b ≡ false → Looking i → Looking (i + 1)
-  looking_next i h e q l = l ∙ place_miss asks_at not i n h (ap not (sym e) ∙ q)
+  pub looking_next : (i : ℕ) {b : Bool} → i < n → b ≡ asks_at i → b ≡ true → Looking i → Looking (i + 1)
+  looking_next i h e q l = l ∙ place_miss asks_at not i n h (ap not (sym e ∙ q))
 
-  pub looking_hit : (i : ℕ) {b : Bool} → i < n → b ≡ asks_at i → not b ≡ true → Looking i → i ≡ call_count w lists_size names_size n
+  pub looking_hit : (i : ℕ) {b : Bool} → i < n → b ≡ asks_at i → b ≡ false → Looking i → i ≡ call_count w lists_size names_size n
   unfolding call_count
-  looking_hit i h e q l = rw (l ∙ place_hit asks_at not i n h (ap not (sym e) ∙ q)) refl
+  looking_hit i h e q l = rw (l ∙ place_hit asks_at not i n h (ap not (sym e ∙ q))) refl
 
   pub looking_end : (i : ℕ) → n ≤ i → Looking i → n ≡ call_count w lists_size names_size n
   unfolding call_count
   looking_end i h l = rw (l ∙ place_end asks_at not i n h) refl
 
-  counted : (r : Found) → Placed asks_at not 0 (0 + n) r → (before r n ≤ n) × ((i : ℕ) → i < before r n → not (asks_at i) ≡ false)
-  counted (At j) p = (omega (arith, p.1), λ i h. p.3 i (omega arith) h)
-  counted Nothing p = (omega arith, λ i h. p i (omega arith) (omega (arith, h)))
+  counted : (r : Option ℕ) → Placed asks_at not 0 (0 + n) r → (before r n ≤ n) × ((i : ℕ) → i < before r n → not (asks_at i) ≡ false)
+  counted (Some j) p = (omega (arith, p.1), λ i h. p.3 i (omega arith) h)
+  counted None p = (omega arith, λ i h. p i (omega arith) (omega (arith, h)))
 
   pub counted_most : call_count w lists_size names_size n ≤ n
   unfolding call_count

@@ -13,7 +13,7 @@ use Rattle.call_lists.specs.declared.record.CallRecord.{CallRecord}
 use Rattle.call_lists.specs.Calls.{part, span_fits, spans_fit}
 
 -- the part from a span's start to its end
-pub part_is : (run : List ℕ) (s : Span) → take ((s.start + s.length) - s.start) (drop s.start run) ≡ part run s
+pub part_is : {A : Type 0} (run : List A) (s : Span) → take ((s.start + s.length) - s.start) (drop s.start run) ≡ part run s
 part_is run s = let l : (s.start + s.length) - s.start ≡ s.length = omega arith in rw l refl
 
 -- whether a span fits, without its end

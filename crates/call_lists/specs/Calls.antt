@@ -1,8 +1,6 @@
 -- What a record of a list stands for: its kind says which call or reading, its words and spans are the arguments. Spans name parts of two lent runs, one of
 -- words and one of bytes.
-use Rattle.std.specs.Prelude.{ℕ, ◌+◌, Bool, not, cond, ◌&&◌, ◌||◌, List, map, leb, eqb, take, drop}
-use Rattle.lists.specs.declared.Found.{Found}
-use Rattle.lists.specs.declared.Found.TheVariants.{At, Nothing}
+use Rattle.std.specs.Prelude.{ℕ, ◌+◌, Bool, not, cond, ◌&&◌, ◌||◌, List, map, leb, eqb, take, drop, None, Option, Some}
 use Rattle.lists.specs.Lists.{range, place}
 use Rattle.layout.specs.declared.outcome.Counts.{Counts}
 use Rattle.layout.specs.declared.outcome.Terms.{Terms}
@@ -18,7 +16,7 @@ use Rattle.call_lists.specs.declared.record.CallRecord.{CallRecord}
 use Rattle.call_lists.specs.Records.{call_at}
 
 -- the words or bytes of a span
-abbrev pub part : List ℕ → Span → List ℕ
+abbrev pub part : {A : Type 0} → List A → Span → List A
 part run span = take span.length (drop span.start run)
 
 -- the terms of a record that is a commit
@@ -133,9 +131,9 @@ unfoldable pub is_asked : ℕ → ℕ → ℕ → CallRecord → Bool
 is_asked lists_size names_size i r = (is_request_kind r.kind || (eqb i 0 && eqb r.kind made_fresh)) && spans_fit lists_size names_size r
 
 -- how many of the first n records come before one that asks for nothing
-abbrev pub before : Found → ℕ → ℕ
-before (At i) n = i
-before Nothing n = n
+abbrev pub before : Option ℕ → ℕ → ℕ
+before (Some i) n = i
+before None n = n
 
 unfoldable pub call_count : List ℕ → ℕ → ℕ → ℕ → ℕ
 call_count w lists_size names_size n = before (place not 0 (map (λ i. is_asked lists_size names_size i (call_at w i)) (range 0 n))) n

@@ -3,18 +3,8 @@ ghost use Rattle.call_lists.specs.Calls.{part};
 
 use crate::record::Span;
 
-// The words of a span that lies within the run.
-pub fn words_of(run: &[u64], span: Span) -> &[u64]
-    requires { span.start + span.length ≤ length run.now }
-    ensures { result.now ≡ part run.now span }
-{
-    let start = span.start;
-    let end = start + span.length;
-    &run[start..end]
-}
-
-// Its bytes.
-pub fn bytes_of(run: &[u8], span: Span) -> &[u8]
+// The words or bytes of a span that lies within the run.
+pub fn part_of<T>(run: &[T], span: Span) -> &[T]
     requires { span.start + span.length ≤ length run.now }
     ensures { result.now ≡ part run.now span }
 {

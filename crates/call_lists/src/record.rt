@@ -2,11 +2,9 @@ ghost use Rattle.std.specs.Prelude.{◌≡◌, true, ◌+◌, ◌*◌, ◌≤◌
 ghost use Rattle.call_lists.specs.Records.{call_size, call_at};
 ghost use Rattle.call_lists.specs.Calls.{is_reading, is_request_kind, span_fits, spans_fit, is_asked, call_count};
 
+use layout::kind::ChangeKind;
 use layout::number::{CatalogId, FileId, SnapshotId};
-use layout::record::{
-    CREATED_SCHEMA, CREATED_TABLE, DELETED_FROM_TABLE, DROPPED_SCHEMA, DROPPED_TABLE,
-    INSERTED_INTO_TABLE, Uuid,
-};
+use layout::record::Uuid;
 
 // Where an argument lies in the run of its kind: its first word or byte, and how many.
 #[derive(Clone, Copy)]
@@ -71,6 +69,7 @@ impl CallRecord {
 }
 
 // A commit's kind is that of the change that it makes. Expiry, cleanup and Fresh have kinds of their own.
+// Stays: a record holds any word, of which the player matches each number once.
 pub const EXPIRED_SNAPSHOTS: u64 = 100;
 
 pub const CLEANED_UP: u64 = 101;
@@ -138,32 +137,24 @@ pub fn is_reading(kind: u64) -> bool
 }
 
 // Whether a call or a reading is of that kind, Fresh apart.
+#[tactic(auto, unfolding(ducklake::specs::Kinds::is_kind, layout::specs::Kinds::kind_of, lists::specs::Lists::any))]
 fn is_request(kind: u64) -> bool
     ensures { result ≡ is_request_kind kind }
 {
-    match kind {
-        CREATED_SCHEMA => true,
-        CREATED_TABLE => true,
-        INSERTED_INTO_TABLE => true,
-        DELETED_FROM_TABLE => true,
-        DROPPED_SCHEMA => true,
-        DROPPED_TABLE => true,
-        _ => ((EXPIRED_SNAPSHOTS <= kind) & (kind <= CLEANED_UP))
-            | ((LISTED_SCHEMAS <= kind) & (kind <= COPIED_FILE)),
-    }
+    let change = ChangeKind::of(kind).is_some();
+    let reading = is_reading(kind);
+    change | ((EXPIRED_SNAPSHOTS <= kind) & (kind <= CLEANED_UP)) | reading
 }
 
 // Whether a span lies within a run of so many words or bytes.
 fn span_fits(size: usize, span: Span) -> bool
     ensures { result ≡ span_fits size span }
 {
-    if size < span.start {
-        return false;
-    }
-    span.length <= size - span.start
+    (span.start <= size) && (span.length <= size - span.start)
 }
 
 // Whether the record, at the place i, asks for something, and its arguments are there.
+#[tactic(auto, unfolding(crate::specs::Calls::spans_fit, crate::specs::Calls::is_asked))]
 fn is_asked(lists: usize, names: usize, i: usize, call: CallRecord) -> bool
     ensures { result ≡ is_asked lists names i call }
 {
@@ -179,13 +170,11 @@ pub fn count_calls(w: &[u64], lists: usize, names: usize, n: usize) -> usize
     requires { call_size * n ≤ length w.now }
     ensures { result ≡ call_count w.now lists names n }
 {
-    let mut i: usize = 0;
-    while i < n {
+    for i in 0..n {
         let call = call_at(w, i);
         if !is_asked(lists, names, i, call) {
             return i;
         }
-        i += 1;
     }
     n
 }

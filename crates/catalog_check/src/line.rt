@@ -3,6 +3,7 @@ ghost use Rattle.layout.specs.Lent.{read_at_entry};
 ghost use Rattle.ducklake.specs.Soundness.{first_unsound};
 
 use layout::outcome::Counts;
+use layout::tables::Tables;
 use soundness::check::first_unsound;
 
 // The first line of 'Sound tables' that doesn't hold, or 0.
@@ -25,7 +26,7 @@ pub extern "C" fn catalog_first_unsound(
     ensures { result ≡ first_unsound (read_at_entry snapshots schemas schema_names tables table_names columns column_names
         data_files delete_files positions statistics scheduled) counts }
 {
-    first_unsound(
+    let lent = Tables {
         snapshots,
         schemas,
         schema_names,
@@ -38,6 +39,6 @@ pub extern "C" fn catalog_first_unsound(
         positions,
         statistics,
         scheduled,
-        counts,
-    )
+    };
+    first_unsound(lent, counts)
 }

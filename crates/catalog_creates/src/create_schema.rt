@@ -2,6 +2,7 @@ ghost use Rattle.ducklake.specs.Commits.{create_schema};
 ghost use Rattle.ducklake.specs.Calls.{commit_at, perform, Promised};
 
 use layout::outcome::{Counts, Outcome, Terms};
+use layout::tables::Tables;
 use schema_creation::create::create_schema;
 use soundness::checked::check;
 
@@ -29,7 +30,7 @@ pub extern "C" fn catalog_create_schema(
         snapshots schemas schema_names tables table_names columns column_names data_files delete_files positions statistics scheduled
         counts area result }
 {
-    let checked = check(
+    let lent = Tables {
         snapshots,
         schemas,
         schema_names,
@@ -42,8 +43,8 @@ pub extern "C" fn catalog_create_schema(
         positions,
         statistics,
         scheduled,
-        counts,
-    );
+    };
+    let checked = check(lent, counts);
     create_schema(
         checked,
         snapshots,

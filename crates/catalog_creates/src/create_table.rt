@@ -3,6 +3,7 @@ ghost use Rattle.ducklake.specs.Calls.{commit_at, perform, Promised};
 
 use layout::number::CatalogId;
 use layout::outcome::{Counts, Outcome, Terms};
+use layout::tables::Tables;
 use soundness::checked::check;
 use table_creation::create::create_table;
 
@@ -34,7 +35,7 @@ pub extern "C" fn catalog_create_table(
         snapshots schemas schema_names tables table_names columns column_names data_files delete_files positions statistics scheduled
         counts area result }
 {
-    let checked = check(
+    let lent = Tables {
         snapshots,
         schemas,
         schema_names,
@@ -47,8 +48,8 @@ pub extern "C" fn catalog_create_table(
         positions,
         statistics,
         scheduled,
-        counts,
-    );
+    };
+    let checked = check(lent, counts);
     create_table(
         checked,
         snapshots,

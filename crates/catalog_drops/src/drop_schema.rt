@@ -4,6 +4,7 @@ ghost use Rattle.ducklake.specs.Calls.{commit_at, perform, Promised};
 use drops::drop::drop_schema;
 use layout::number::CatalogId;
 use layout::outcome::{Counts, Outcome, Terms};
+use layout::tables::Tables;
 use soundness::checked::check;
 
 // 'Drop schema', a commit under these terms.
@@ -30,7 +31,7 @@ pub extern "C" fn catalog_drop_schema(
         snapshots schemas schema_names tables table_names columns column_names data_files delete_files positions statistics scheduled
         counts area result }
 {
-    let checked = check(
+    let lent = Tables {
         snapshots,
         schemas,
         schema_names,
@@ -43,7 +44,7 @@ pub extern "C" fn catalog_drop_schema(
         positions,
         statistics,
         scheduled,
-        counts,
-    );
+    };
+    let checked = check(lent, counts);
     drop_schema(checked, snapshots, schemas, tables, counts, terms, schema)
 }

@@ -4,6 +4,7 @@ ghost use Rattle.ducklake.specs.Calls.{commit_at, perform, Promised};
 use drops::drop::drop_table;
 use layout::number::CatalogId;
 use layout::outcome::{Counts, Outcome, Terms};
+use layout::tables::Tables;
 use soundness::checked::check;
 
 // 'Drop table', a commit under these terms.
@@ -30,7 +31,7 @@ pub extern "C" fn catalog_drop_table(
         snapshots schemas schema_names tables table_names columns column_names data_files delete_files positions statistics scheduled
         counts area result }
 {
-    let checked = check(
+    let lent = Tables {
         snapshots,
         schemas,
         schema_names,
@@ -43,8 +44,8 @@ pub extern "C" fn catalog_drop_table(
         positions,
         statistics,
         scheduled,
-        counts,
-    );
+    };
+    let checked = check(lent, counts);
     drop_table(
         checked,
         snapshots,

@@ -1,11 +1,10 @@
 -- The tables that Fresh is lent: the room that it needs, its records at the front of their runs, and its promise.
 use Prim.Native.Nat.{ℕ}
 use mathlib.Core.Path.{◌≡◌, refl, sym, ap, ap₂, ◌∙◌}
-use mathlib.Core.Bool.{Bool, true, false, not}
+use mathlib.Core.Bool.{Bool, true, false}
 use mathlib.Core.List.{List}
 use native.Mathlib.Omega.{arith}
 use Rattle.lists.specs.Runs.{overwrite}
-use Rattle.lists.proofs.Tests.{passed, failed}
 use Rattle.layout.specs.declared.outcome.Counts.{Counts}
 use Rattle.layout.specs.Records.{snapshot_words, schema_words}
 use Rattle.layout.specs.Catalog.{snapshot_record, schema_record}
@@ -36,20 +35,20 @@ module _ {room : Counts} {ns ss xs : List ℕ} (l : FreshLent room ns ss xs) {b 
   unfolding has_room
   has_room_lem time = e ∙ ap₂ within (sym (fresh_counts_lem time)) l.room
 
-  pub fresh_relies : not b ≡ false → FreshRoom ns ss xs
+  pub fresh_relies : b ≡ true → FreshRoom ns ss xs
   fresh_relies h =
-      let r = held l.words fresh_counts (ap (within fresh_counts) (sym l.room) ∙ passed e h) in
+      let r = held l.words fresh_counts (ap (within fresh_counts) (sym l.room) ∙ sym e ∙ h) in
       rw (l.snapshots, l.schemas, l.schema_names) at (fits r)
     where
       fits : Held l.words fresh_counts → FreshRoom l.words.snapshots l.words.schemas l.words.schema_names
       fits r = record { snapshot = omega (arith, r.snapshots); schema = omega (arith, r.schemas); name = omega (arith, r.schema_names) }
 
   module _ (time : ℕ) (c : Counts) (area : List ℕ) where
-    pub fresh_refused : not b ≡ true → Promise (perform_fresh time l.words c area) (outcome no_room 0 0 c) (fresh_leaves l.words ns ss xs) area
-    fresh_refused h = promise_fresh_refused time l.words c area (failed (has_room_lem time) h) (rw (← l.snapshots, ← l.schemas, ← l.schema_names) refl) refl
+    pub fresh_refused : b ≡ false → Promise (perform_fresh time l.words c area) (outcome no_room 0 0 c) (fresh_leaves l.words ns ss xs) area
+    fresh_refused h = promise_fresh_refused time l.words c area (sym (has_room_lem time) ∙ h) (rw (← l.snapshots, ← l.schemas, ← l.schema_names) refl) refl
 
-    pub fresh_done : {ns' ss' xs' : List ℕ} → not b ≡ false
+    pub fresh_done : {ns' ss' xs' : List ℕ} → b ≡ true
         → ((w : Words) → w.snapshots ≡ ns → w.schemas ≡ ss → w.schema_names ≡ xs → fresh_leaves w ns' ss' xs' ≡ store w no_counts (fresh_catalog time))
         → Promise (perform_fresh time l.words c area) (outcome accepted 0 0 fresh_counts) (fresh_leaves l.words ns' ss' xs') area
     fresh_done h d =
-        promise_fresh_accepted time l.words c area (passed (has_room_lem time) h) (sym (fresh_counts_lem time)) (d l.words l.snapshots l.schemas l.schema_names) refl
+        promise_fresh_accepted time l.words c area (sym (has_room_lem time) ∙ h) (sym (fresh_counts_lem time)) (d l.words l.snapshots l.schemas l.schema_names) refl

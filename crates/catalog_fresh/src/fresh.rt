@@ -2,6 +2,7 @@ ghost use Rattle.ducklake.specs.Calls.{perform_fresh, Promised};
 
 use crate::start::start;
 use layout::outcome::{Counts, Outcome};
+use layout::tables::Tables;
 use refusals::room::capacity;
 
 // Fresh: "It ignores the used counts it is given, writes just these two records and the name, and frees nothing."
@@ -27,7 +28,7 @@ pub extern "C" fn catalog_fresh(
         snapshots schemas schema_names tables table_names columns column_names data_files delete_files positions statistics scheduled
         counts area result }
 {
-    let room = capacity(
+    let lent = Tables {
         snapshots,
         schemas,
         schema_names,
@@ -40,6 +41,7 @@ pub extern "C" fn catalog_fresh(
         positions,
         statistics,
         scheduled,
-    );
+    };
+    let room = capacity(lent);
     start(room, snapshots, schemas, schema_names, counts, time)
 }

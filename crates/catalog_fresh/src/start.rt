@@ -4,9 +4,11 @@ ghost use Rattle.ducklake.specs.Commits.{fresh_catalog};
 ghost use Rattle.ducklake.specs.Calls.{no_counts, perform_fresh, Promise};
 ghost use Rattle.catalog_fresh.specs.Lent.{FreshLent, FreshRoom, fresh_leaves};
 
-use layout::number::{ABSENT, CatalogId, FileId, SnapshotId};
-use layout::outcome::{ACCEPTED, Counts, NO_ROOM, Outcome};
-use layout::record::{CREATED_SCHEMA, SchemaRecord, SnapshotRecord};
+use layout::kind::ChangeKind;
+use layout::number::{CatalogId, FileId, SnapshotId};
+use layout::outcome::{Counts, Outcome};
+use layout::record::{SchemaRecord, SnapshotRecord};
+use layout::refusal::Refusal;
 use names::write_name;
 use records::schema::write_schema;
 use records::snapshot::write_snapshot;
@@ -40,7 +42,7 @@ fn write_fresh(snapshots: &mut [u64], schemas: &mut [u64], schema_names: &mut [u
             schema_version: 0,
             next_catalog_id: CatalogId(1),
             next_file_id: FileId(0),
-            kind: CREATED_SCHEMA,
+            kind: u64::from(ChangeKind::CreatedSchema),
             object: CatalogId(0),
         },
     );
@@ -50,7 +52,7 @@ fn write_fresh(snapshots: &mut [u64], schemas: &mut [u64], schema_names: &mut [u
         SchemaRecord {
             id: CatalogId(0),
             begin: SnapshotId(0),
-            end: SnapshotId(ABSENT),
+            end: SnapshotId::ABSENT,
         },
     );
     write_name(schema_names, 0, b"main");
@@ -72,18 +74,8 @@ pub fn start(
 {
     let held = is_within(FRESH, room);
     if !held {
-        return Outcome {
-            number: NO_ROOM,
-            place: 0,
-            length: 0,
-            counts,
-        };
+        return Outcome::refused(Refusal::NoRoom, counts);
     }
     write_fresh(snapshots, schemas, schema_names, time);
-    Outcome {
-        number: ACCEPTED,
-        place: 0,
-        length: 0,
-        counts: FRESH,
-    }
+    Outcome::accepted(0, FRESH)
 }

@@ -2,6 +2,7 @@ ghost use Rattle.ducklake.specs.Calls.{clean_up, perform, Promised};
 
 use cleanup::clean::clean_up;
 use layout::outcome::{Counts, Outcome};
+use layout::tables::Tables;
 use soundness::checked::check;
 
 // Cleanup: the files that were scheduled before t are handed out and leave the scheduled table.
@@ -27,7 +28,7 @@ pub extern "C" fn catalog_cleanup(
         snapshots schemas schema_names tables table_names columns column_names data_files delete_files positions statistics scheduled
         counts area result }
 {
-    let checked = check(
+    let lent = Tables {
         snapshots,
         schemas,
         schema_names,
@@ -40,7 +41,7 @@ pub extern "C" fn catalog_cleanup(
         positions,
         statistics,
         scheduled,
-        counts,
-    );
+    };
+    let checked = check(lent, counts);
     clean_up(checked, scheduled, counts, t, area)
 }

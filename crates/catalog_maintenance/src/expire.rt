@@ -1,6 +1,7 @@
 ghost use Rattle.ducklake.specs.Calls.{expire_snapshots, perform, Promised};
 
 use layout::outcome::{Counts, Outcome};
+use layout::tables::Tables;
 use snapshot_expiry::expire::expire_snapshots;
 use soundness::checked::check;
 
@@ -28,7 +29,7 @@ pub extern "C" fn catalog_expire(
         snapshots schemas schema_names tables table_names columns column_names data_files delete_files positions statistics scheduled
         counts area result }
 {
-    let checked = check(
+    let lent = Tables {
         snapshots,
         schemas,
         schema_names,
@@ -41,8 +42,8 @@ pub extern "C" fn catalog_expire(
         positions,
         statistics,
         scheduled,
-        counts,
-    );
+    };
+    let checked = check(lent, counts);
     expire_snapshots(
         checked,
         snapshots,

@@ -8,15 +8,15 @@ use call_dispatch::play::play;
 use call_lists::outcome::{Session, TOLD_SIZE, write_outcome};
 use call_lists::record::{CallRecord, call_at, count_calls};
 use layout::outcome::Counts;
+use layout::tables::Tables;
 use refusals::checked::Checked;
-use refusals::room::smaller;
 
 // How many records are played.
 fn calls_played(calls: &[u64], lists: &[u64], names: &[u8], told: &[u64]) -> usize
     ensures { (result ≡ calls_played calls.now lists.now names.now told.now)
         × (call_size * result ≤ length calls.now) × (told_size * result ≤ length told.now) }
 {
-    let most = smaller(calls.len() / CallRecord::SIZE, told.len() / TOLD_SIZE);
+    let most = (calls.len() / CallRecord::SIZE).min(told.len() / TOLD_SIZE);
     count_calls(calls, lists.len(), names.len(), most)
 }
 
@@ -60,11 +60,9 @@ pub extern "C" fn catalog_play(
         lasting: false,
     };
     let mut answered: usize = 0;
-    let mut i: usize = 0;
-    while i < n {
+    for i in 0..n {
         let call = call_at(calls, i);
-        judged = judge(
-            judged,
+        let lent = Tables {
             snapshots,
             schemas,
             schema_names,
@@ -77,8 +75,8 @@ pub extern "C" fn catalog_play(
             positions,
             statistics,
             scheduled,
-            held,
-        );
+        };
+        judged = judge(judged, lent, held);
         let outcome = play(
             judged.checked,
             snapshots,
@@ -102,7 +100,6 @@ pub extern "C" fn catalog_play(
         write_outcome(told, i, outcome);
         held = outcome.counts;
         answered += outcome.length;
-        i += 1;
     }
     Session {
         played: n,

@@ -3,6 +3,7 @@ ghost use Rattle.ducklake.specs.Calls.{query_at, perform_reading, PromisedReadin
 
 use layout::number::{CatalogId, SnapshotId};
 use layout::outcome::{Counts, Outcome};
+use layout::tables::Tables;
 use listings::columns::list_columns;
 use soundness::checked::check;
 
@@ -30,7 +31,7 @@ pub extern "C" fn catalog_list_columns(
         snapshots schemas schema_names tables table_names columns column_names data_files delete_files positions statistics scheduled
         counts area result }
 {
-    let checked = check(
+    let lent = Tables {
         snapshots,
         schemas,
         schema_names,
@@ -43,8 +44,8 @@ pub extern "C" fn catalog_list_columns(
         positions,
         statistics,
         scheduled,
-        counts,
-    );
+    };
+    let checked = check(lent, counts);
     list_columns(
         checked, snapshots, tables, columns, counts, snapshot, table, area,
     )

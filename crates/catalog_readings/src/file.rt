@@ -5,10 +5,12 @@ ghost use Rattle.ducklake.specs.Lookup.{lookup, perform_lookup, LookupPromise};
 use file_lookup::copy::copy_file;
 use file_lookup::find::find_file;
 use layout::number::FileId;
-use layout::outcome::{Counts, Outcome};
+use layout::outcome::{ACCEPTED, Counts, Outcome};
+use layout::tables::Tables;
 use soundness::checked::check;
 
 // The record of a file id itself, as a part of the data files or of the delete files; an empty part with every refusal.
+// A number beside the part and no Result: `catalog_find_file`, a public call, keeps its signature.
 pub fn catalog_find_file<'a>(
     snapshots: &[u64],
     schemas: &[u64],
@@ -32,7 +34,7 @@ pub fn catalog_find_file<'a>(
         counts id.0)
         data_files.entry delete_files.entry result number.new }
 {
-    let checked = check(
+    let lent = Tables {
         snapshots,
         schemas,
         schema_names,
@@ -45,9 +47,18 @@ pub fn catalog_find_file<'a>(
         positions,
         statistics,
         scheduled,
-        counts,
-    );
-    find_file(checked, data_files, delete_files, counts, id, number)
+    };
+    let checked = check(lent, counts);
+    match find_file(checked, data_files, delete_files, counts, id) {
+        Ok(part) => {
+            *number = ACCEPTED;
+            part
+        }
+        Err(refusal) => {
+            *number = refusal.number();
+            &data_files[0..0]
+        }
+    }
 }
 
 // The same record copied into the answer area: where no reference can be handed back.
@@ -73,7 +84,7 @@ pub extern "C" fn catalog_copy_file<'a>(
         snapshots schemas schema_names tables table_names columns column_names data_files delete_files positions statistics scheduled
         counts area result }
 {
-    let checked = check(
+    let lent = Tables {
         snapshots,
         schemas,
         schema_names,
@@ -86,7 +97,7 @@ pub extern "C" fn catalog_copy_file<'a>(
         positions,
         statistics,
         scheduled,
-        counts,
-    );
+    };
+    let checked = check(lent, counts);
     copy_file(checked, data_files, delete_files, counts, id, area)
 }

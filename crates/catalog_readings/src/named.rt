@@ -3,6 +3,7 @@ ghost use Rattle.ducklake.specs.Calls.{query_at, perform_reading, PromisedReadin
 
 use layout::number::{CatalogId, SnapshotId};
 use layout::outcome::{Counts, Outcome};
+use layout::tables::Tables;
 use listings::named::find_table_by_name;
 use soundness::checked::check;
 
@@ -31,7 +32,7 @@ pub extern "C" fn catalog_table_by_name(
         snapshots schemas schema_names tables table_names columns column_names data_files delete_files positions statistics scheduled
         counts area result }
 {
-    let checked = check(
+    let lent = Tables {
         snapshots,
         schemas,
         schema_names,
@@ -44,8 +45,8 @@ pub extern "C" fn catalog_table_by_name(
         positions,
         statistics,
         scheduled,
-        counts,
-    );
+    };
+    let checked = check(lent, counts);
     find_table_by_name(
         checked,
         snapshots,

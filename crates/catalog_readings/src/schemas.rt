@@ -3,6 +3,7 @@ ghost use Rattle.ducklake.specs.Calls.{query_at, perform_reading, PromisedReadin
 
 use layout::number::SnapshotId;
 use layout::outcome::{Counts, Outcome};
+use layout::tables::Tables;
 use listings::schemas::list_schemas;
 use soundness::checked::check;
 
@@ -29,7 +30,7 @@ pub extern "C" fn catalog_list_schemas(
         snapshots schemas schema_names tables table_names columns column_names data_files delete_files positions statistics scheduled
         counts area result }
 {
-    let checked = check(
+    let lent = Tables {
         snapshots,
         schemas,
         schema_names,
@@ -42,7 +43,7 @@ pub extern "C" fn catalog_list_schemas(
         positions,
         statistics,
         scheduled,
-        counts,
-    );
+    };
+    let checked = check(lent, counts);
     list_schemas(checked, snapshots, schemas, counts, snapshot, area)
 }

@@ -1,6 +1,7 @@
 ghost use Rattle.ducklake.specs.Calls.{by_time, perform_reading, PromisedReading};
 
 use layout::outcome::{Counts, Outcome};
+use layout::tables::Tables;
 use listings::time::find_snapshot_by_time;
 use soundness::checked::check;
 
@@ -27,7 +28,7 @@ pub extern "C" fn catalog_snapshot_by_time(
         snapshots schemas schema_names tables table_names columns column_names data_files delete_files positions statistics scheduled
         counts area result }
 {
-    let checked = check(
+    let lent = Tables {
         snapshots,
         schemas,
         schema_names,
@@ -40,7 +41,7 @@ pub extern "C" fn catalog_snapshot_by_time(
         positions,
         statistics,
         scheduled,
-        counts,
-    );
+    };
+    let checked = check(lent, counts);
     find_snapshot_by_time(checked, snapshots, counts, t, area)
 }

@@ -4,6 +4,7 @@ ghost use Rattle.ducklake.specs.Calls.{commit_at, perform, Promised};
 use layout::number::FileId;
 use layout::outcome::{Counts, Outcome, Terms};
 use layout::record::Uuid;
+use layout::tables::Tables;
 use row_deletion::delete::delete_rows;
 use soundness::checked::check;
 
@@ -33,7 +34,7 @@ pub extern "C" fn catalog_delete(
         snapshots schemas schema_names tables table_names columns column_names data_files delete_files positions statistics scheduled
         counts area result }
 {
-    let checked = check(
+    let lent = Tables {
         snapshots,
         schemas,
         schema_names,
@@ -46,8 +47,8 @@ pub extern "C" fn catalog_delete(
         positions,
         statistics,
         scheduled,
-        counts,
-    );
+    };
+    let checked = check(lent, counts);
     delete_rows(
         checked,
         snapshots,

@@ -4,6 +4,7 @@ ghost use Rattle.ducklake.specs.Calls.{commit_at, perform, Promised};
 use layout::number::CatalogId;
 use layout::outcome::{Counts, Outcome, Terms};
 use layout::record::Uuid;
+use layout::tables::Tables;
 use row_insertion::insert::insert_rows;
 use soundness::checked::check;
 
@@ -34,7 +35,7 @@ pub extern "C" fn catalog_insert(
         snapshots schemas schema_names tables table_names columns column_names data_files delete_files positions statistics scheduled
         counts area result }
 {
-    let checked = check(
+    let lent = Tables {
         snapshots,
         schemas,
         schema_names,
@@ -47,8 +48,8 @@ pub extern "C" fn catalog_insert(
         positions,
         statistics,
         scheduled,
-        counts,
-    );
+    };
+    let checked = check(lent, counts);
     insert_rows(
         checked,
         snapshots,

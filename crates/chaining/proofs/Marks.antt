@@ -1,4 +1,5 @@
 -- Flags of data files: set by id, told by id. Ids ascend, so the place found is the only one of its id.
+use Rattle.std.specs.Prelude.{None, Option, Some}
 use Prim.Native.Nat.{ℕ, ◌+◌, ◌≤◌, ◌<◌}
 use mathlib.Core.Path.{◌≡◌, refl, sym, ap, subst, ◌∙◌}
 use mathlib.Core.Bool.{Bool, true, false, not, ◌&&◌, ◌||◌}
@@ -8,8 +9,6 @@ use lib.Dec.{ltb, eqb}
 use lib.ListN.{length, get_or, set, replicate, get_or-replicate}
 use lib.Seq.{get_or-set_same, get_or-set_other}
 use borrow.Author.Tests.{eqb-true, eqb-false, eq-eqb}
-use Rattle.lists.specs.declared.Found.{Found}
-use Rattle.lists.specs.declared.Found.TheVariants.{At, Nothing}
 use Rattle.lists.specs.Lists.{all, any, chained, bit}
 use Rattle.lists.specs.Runs.{from, at, field, fields}
 use Rattle.lists.specs.Pieces.{flagged, Flags}
@@ -50,22 +49,22 @@ flag-set flags i j l =
     (λ q. rw (← eqb-true i j q, get_or-set_same flags i 1 0 l) (sym (or_right (eqb (get_or flags i 0) 1) (eqb i i) (eq-eqb i i refl))))
     (λ q. rw (get_or-set_other flags i j 1 0 (λ a. eqb-false i j q (sym a)), q) (or-false (eqb (get_or flags j 0) 1)))
 
-module _ (fs : List ℕ) (n k : ℕ) {r : Found} (h : r ≡ place_of data_file_size data_file_id_word fs n k) where
-  pub found_id : {i : ℕ} → r ≡ At i → (i < n) × ((data_file_at fs i).id ≡ k)
+module _ (fs : List ℕ) (n k : ℕ) {r : Option ℕ} (h : r ≡ place_of data_file_size data_file_id_word fs n k) where
+  pub found_id : {i : ℕ} → r ≡ Some i → (i < n) × ((data_file_at fs i).id ≡ k)
   unfolding field
   found_id g = let t = found_tells (λ i. (data_file_at fs i).id) (λ y. eqb y k) n h g in (t.0, eqb-true _ k t.1)
 
-  pub open_found : chained ltb (fields data_file_size data_file_id_word fs n) ≡ true → {i : ℕ} → r ≡ At i
+  pub open_found : chained ltb (fields data_file_size data_file_id_word fs n) ≡ true → {i : ℕ} → r ≡ Some i
       → is_open (data_files_in fs n) k ≡ eqb (data_file_at fs i).end absent
   unfolding field is_open
   open_found e g = any_found (data_file_at fs) (λ f. f.id) k n (λ f. eqb f.end absent) e h g
 
-  pub open_nowhere : r ≡ Nothing → is_open (data_files_in fs n) k ≡ false
+  pub open_nowhere : r ≡ None → is_open (data_files_in fs n) k ≡ false
   unfolding field is_open
   open_nowhere g = any_nowhere (data_file_at fs) (λ f. f.id) k n (λ f. eqb f.end absent) h g
 
   -- the flag at the place found is set
-  pub mark_found : chained ltb (fields data_file_size data_file_id_word fs n) ≡ true → (flags : List ℕ) {v : List ℕ} {i : ℕ} → r ≡ At i → n ≤ length flags → v ≡ set flags i (bit true)
+  pub mark_found : chained ltb (fields data_file_size data_file_id_word fs n) ≡ true → (flags : List ℕ) {v : List ℕ} {i : ℕ} → r ≡ Some i → n ≤ length flags → v ≡ set flags i (bit true)
       → Flags (λ j. flagged flags j || eqb k (data_file_at fs j).id) n v
   unfolding field
   mark_found e flags {v} {i} g l s = record { set = marked }
@@ -80,11 +79,11 @@ module _ (fs : List ℕ) (n k : ℕ) {r : Found} (h : r ≡ place_of data_file_s
           (λ q. eq-eqb i j (ascending_one (λ a. (data_file_at fs a).id) n e i j here.0 b (here.1 ∙ eqb-true k _ q)))))
 
   -- no flag is, where no data file has the id
-  pub mark_nowhere : r ≡ Nothing → (flags : List ℕ) → Flags (λ j. flagged flags j || eqb k (data_file_at fs j).id) n flags
+  pub mark_nowhere : r ≡ None → (flags : List ℕ) → Flags (λ j. flagged flags j || eqb k (data_file_at fs j).id) n flags
   unfolding field
   mark_nowhere g flags = record { set = kept }
     where
-      other : Placed (λ i. (data_file_at fs i).id) (λ y. eqb y k) 0 (0 + n) Nothing
+      other : Placed (λ i. (data_file_at fs i).id) (λ y. eqb y k) 0 (0 + n) None
       other = subst (Placed (λ i. (data_file_at fs i).id) (λ y. eqb y k) 0 (0 + n)) (sym h ∙ g) (placed (λ i. (data_file_at fs i).id) (λ y. eqb y k) n 0)
 
       kept : (j : ℕ) → j < n → flagged flags j ≡ (flagged flags j || eqb k (data_file_at fs j).id)

@@ -6,10 +6,9 @@ ghost use Rattle.layout.specs.Words.{Words, load, data_file_at, data_files_in, d
 ghost use Rattle.lookup.specs.Order.{DataFilesById};
 ghost use Rattle.chaining.specs.Chained.{is_open, has_open_deletes, is_chained, ChainCheckable};
 
-use layout::number::{ABSENT, FileId, TABLE_LIMIT};
+use layout::number::{FileId, SnapshotId, TABLE_LIMIT};
 use layout::outcome::Counts;
 use layout::record::DataFileRecord;
-use lists::Found;
 use lookup::find::find_data_file;
 use lookup::life::life_at;
 use records::delete_file::{delete_file_data_file, delete_file_end};
@@ -21,7 +20,7 @@ fn mark_data_file(data_files: &[u64], n: usize, id: FileId, flags: &mut [u8])
     ensures { Flags (λ j. flagged flags.old j || eqb id.0 (data_file_at data_files.now j).id) n flags.new }
 {
     let found = find_data_file(data_files, n, id);
-    if let Found::At(j) = found {
+    if let Some(j) = found {
         set_flag(flags, j, true);
     }
 }
@@ -33,12 +32,10 @@ fn mark_data_files(data_files: &[u64], n: usize, delete_files: &[u64], m: usize,
         → Flags (λ j. flagged flags.old j
         || has_open_deletes (delete_files_in delete_files.now p m) (data_file_at data_files.now j).id) n flags.new }
 {
-    let mut i: usize = 0;
-    while i < m {
+    for i in 0..m {
         let file = delete_file_data_file(delete_files, i);
         let end = delete_file_end(delete_files, i);
-        i += 1;
-        if end.0 == ABSENT {
+        if end == SnapshotId::ABSENT {
             mark_data_file(data_files, n, file, flags);
         }
     }
@@ -53,12 +50,12 @@ fn is_covered(data_files: &[u64], n: usize, id: FileId, flags: &[u8]) -> bool
 {
     let found = find_data_file(data_files, n, id);
     match found {
-        Found::At(j) => {
+        Some(j) => {
             let l = life_at(data_files, DataFileRecord::SIZE, DataFileRecord::BEGIN, j);
             let marked = is_flagged(flags, j);
-            (l.end.0 != ABSENT) | marked
+            (l.end != SnapshotId::ABSENT) | marked
         }
-        Found::Nothing => true,
+        None => true,
     }
 }
 
@@ -70,14 +67,12 @@ fn all_covered(data_files: &[u64], n: usize, delete_files: &[u64], m: usize, fla
         → result ≡ all (λ d. not (is_open (data_files_in data_files.now n) d.body.data_file) || q d.body.data_file)
         (delete_files_in delete_files.now p m) }
 {
-    let mut i: usize = 0;
-    while i < m {
+    for i in 0..m {
         let file = delete_file_data_file(delete_files, i);
         let ok = is_covered(data_files, n, file, flags);
         if !ok {
             return false;
         }
-        i += 1;
     }
     true
 }

@@ -3,7 +3,7 @@ ghost use Rattle.cleanup.specs.Lent.{CleanupLent, cleanup_leaves};
 
 use crate::due::{hand_out, remove_due};
 use crate::refuse::refuse_cleanup;
-use layout::outcome::{ACCEPTED, Counts, Outcome};
+use layout::outcome::{Counts, Outcome};
 use refusals::checked::Checked;
 
 // Cleanup on tables that were checked: refused, or what is due is handed out and removed.
@@ -18,31 +18,14 @@ pub fn clean_up(
     ensures { (l : CleanupLent checked scheduled.old counts)
         → Promise (perform (clean_up t) l.words counts area.old) result (cleanup_leaves l.words scheduled.new) area.new }
 {
-    let number = refuse_cleanup(checked, scheduled, counts, t, area.len());
-    if number != ACCEPTED {
-        return Outcome {
-            number,
-            place: 0,
-            length: 0,
-            counts,
-        };
+    if let Err(refusal) = refuse_cleanup(checked, scheduled, counts, t, area.len()) {
+        return Outcome::refused(refusal, counts);
     }
     let length = hand_out(scheduled, counts.scheduled, t, area);
     let left = remove_due(scheduled, counts.scheduled, t);
-    Outcome {
-        number: ACCEPTED,
-        place: 0,
-        length,
-        counts: Counts {
-            snapshots: counts.snapshots,
-            schemas: counts.schemas,
-            tables: counts.tables,
-            columns: counts.columns,
-            data_files: counts.data_files,
-            delete_files: counts.delete_files,
-            positions: counts.positions,
-            statistics: counts.statistics,
-            scheduled: left,
-        },
-    }
+    let after = Counts {
+        scheduled: left,
+        ..counts
+    };
+    Outcome::accepted(length, after)
 }

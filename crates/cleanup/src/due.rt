@@ -10,7 +10,7 @@ use layout::number::{HANDED_SIZE, TABLE_LIMIT};
 use layout::record::ScheduledRecord;
 use records::scheduled::{scheduled_at, scheduled_start};
 use runs::flags::set_flag;
-use runs::kept_words::keep_records;
+use runs::kept::keep_rows;
 
 // "schedule_start < t"
 fn is_due(start: u64, t: u64) -> bool
@@ -25,11 +25,9 @@ pub fn count_due(scheduled: &[u64], n: usize, t: u64) -> usize
     ensures { result ≡ length (due_in scheduled.now n t) }
 {
     let mut k: usize = 0;
-    let mut i: usize = 0;
-    while i < n {
+    for i in 0..n {
         let start = scheduled_start(scheduled, i);
         let due = is_due(start, t);
-        i += 1;
         if due {
             k += 1;
         }
@@ -53,11 +51,9 @@ pub fn hand_out(scheduled: &[u64], n: usize, t: u64, area: &mut [u64]) -> usize
     ensures { Handed scheduled.now n t area.old result area.new }
 {
     let mut k: usize = 0;
-    let mut i: usize = 0;
-    while i < n {
+    for i in 0..n {
         let r = scheduled_at(scheduled, i);
         let due = is_due(r.schedule_start, t);
-        i += 1;
         if due {
             write_handed(area, k, r);
             k += HANDED_SIZE;
@@ -71,12 +67,10 @@ fn flag_later(scheduled: &[u64], n: usize, t: u64, flags: &mut [u8])
     requires { ScheduledLent scheduled.now n × (n ≤ length flags.old) }
     ensures { Flags (stays_at scheduled.now t) n flags.new }
 {
-    let mut i: usize = 0;
-    while i < n {
+    for i in 0..n {
         let start = scheduled_start(scheduled, i);
         let due = is_due(start, t);
         set_flag(flags, i, !due);
-        i += 1;
     }
 }
 
@@ -88,5 +82,5 @@ pub fn remove_due(scheduled: &mut [u64], n: usize, t: u64) -> usize
 {
     let mut flags = [0u8; TABLE_LIMIT];
     flag_later(scheduled, n, t, &mut flags);
-    keep_records(scheduled, ScheduledRecord::SIZE, n, &flags)
+    keep_rows(scheduled, ScheduledRecord::SIZE, n, &flags, 0)
 }

@@ -1,9 +1,9 @@
 // Column types, and words as signed values.
 #![tactic(auto)]
 
-ghost use Rattle.std.specs.Prelude.{◌≡◌, ◌&&◌, ℤ};
-ghost use Rattle.std.specs.Int.Signed.{le_z};
+ghost use Rattle.std.specs.Prelude.{◌≡◌, MatchOption};
 ghost use Rattle.layout.specs.Types.{signed, is_type, in_type, bound_at_most};
+ghost use Rattle.column_types.specs.Ranges.{HasType, HasNoType};
 
 use layout::value::TypeRange;
 
@@ -54,25 +54,21 @@ const TYPES: [TypeRange; TYPE_COUNT] = [
     },
 ];
 
-// The type of that code, its place in the table told by an arm for each: a place that is known when this is compiled costs no copy of the table. A code of no
-// type has no value.
-fn type_of(code: u64) -> TypeRange
-    ensures { (le_z result.low result.high ≡ is_type code) × ((v : ℤ) → (le_z result.low v && le_z v result.high) ≡ in_type code v) }
+// The type of that code, if there is one, its place in the table told by an arm for each: a place that is known when this is compiled costs no copy of
+// the table.
+fn type_of(code: u64) -> Option<TypeRange>
+    ensures { MatchOption result (HasNoType code) (HasType code) }
 {
     match code {
-        1 => TYPES[0],
-        2 => TYPES[1],
-        3 => TYPES[2],
-        4 => TYPES[3],
-        5 => TYPES[4],
-        6 => TYPES[5],
-        7 => TYPES[6],
-        8 => TYPES[7],
-        _ => TypeRange {
-            code: 0,
-            low: 1,
-            high: 0,
-        },
+        1 => Some(TYPES[0]),
+        2 => Some(TYPES[1]),
+        3 => Some(TYPES[2]),
+        4 => Some(TYPES[3]),
+        5 => Some(TYPES[4]),
+        6 => Some(TYPES[5]),
+        7 => Some(TYPES[6]),
+        8 => Some(TYPES[7]),
+        _ => None,
     }
 }
 
@@ -80,39 +76,30 @@ fn type_of(code: u64) -> TypeRange
 pub fn is_type(code: u64) -> bool
     ensures { result ≡ is_type code }
 {
-    let t = type_of(code);
-    t.low <= t.high
+    type_of(code).is_some()
 }
 
 // Whether the value is in the range of the type of that code.
 pub fn in_type(code: u64, v: i64) -> bool
     ensures { result ≡ in_type code v }
 {
-    let t = type_of(code);
-    (t.low <= v) & (v <= t.high)
+    match type_of(code) {
+        Some(t) => (t.low <= v) & (v <= t.high),
+        None => false,
+    }
 }
 
-// The first word that stands for a negative number, and that number.
-const HALF: u64 = 9223372036854775808;
-
-const LEAST: i64 = -9223372036854775808;
-
 // The word, read in two's complement.
+// Stays: this is the library's cast, under the definition that callers cite (`signed`).
 pub fn to_signed(w: u64) -> i64
     ensures { result ≡ signed w }
 {
-    if w < HALF {
-        w as i64
-    } else {
-        (w - HALF) as i64 + LEAST
-    }
+    w.cast_signed()
 }
 
 // Whether one bound of a column of that type is at most another: bounds of every type are signed numbers.
 pub fn bound_at_most(type_code: u64, a: u64, b: u64) -> bool
     ensures { result ≡ bound_at_most type_code a b }
 {
-    let low = to_signed(a);
-    let high = to_signed(b);
-    low <= high
+    to_signed(a) <= to_signed(b)
 }

@@ -9,7 +9,7 @@ ghost use Rattle.call_laws.specs.Writes.{opened};
 ghost use Rattle.commits.specs.Written.{SnapshotRoom, NamedRoom, SnapshotAppended, NamedAppended};
 
 use crate::number::next_snapshot;
-use layout::number::{ABSENT, CatalogId, RowId, SnapshotId};
+use layout::number::{CatalogId, RowId, SnapshotId};
 use layout::record::{SchemaRecord, TableRecord};
 use lookup::find::latest_snapshot;
 use names::write_name;
@@ -56,7 +56,7 @@ pub fn append_schema(
         SchemaRecord {
             id,
             begin,
-            end: SnapshotId(ABSENT),
+            end: SnapshotId::ABSENT,
         },
     );
     write_name(names, n, name);
@@ -83,7 +83,7 @@ pub fn append_table(
         TableRecord {
             id,
             begin,
-            end: SnapshotId(ABSENT),
+            end: SnapshotId::ABSENT,
             schema,
             next_row_id: RowId(0),
         },

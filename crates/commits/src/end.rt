@@ -6,7 +6,9 @@ use layout::number::{ABSENT, CatalogId, FileId, SnapshotId};
 use layout::record::{ColumnRecord, DataFileRecord, DeleteFileRecord, SchemaRecord, TableRecord};
 use runs::update::set_where;
 
-// The open records that are named end at s: the schema of an id,
+// The open records that are named end at s.
+// Stays: `set_where` is the one function for all of them; each of these names a table, its words and the type of its id.
+// The schema of an id,
 pub fn end_schema(schemas: &mut [u64], n: usize, id: CatalogId, s: SnapshotId)
     requires { schema_size * n ≤ length schemas.old }
     ensures { schemas.new ≡ end_records schema_size schema_id_word schema_end_word id.0 s.0 schemas.old n }

@@ -14,6 +14,7 @@ use names::is_named;
 use records::table::table_schema;
 
 // Whether the schema i is live at s and has the name.
+#[tactic(auto, using(lists::proofs::Runs::record_fits), unfolding(ducklake::specs::Arguments::clashes, ducklake::specs::Liveness::live, lists::specs::Runs::field))]
 fn schema_takes_name(
     schemas: &[u64],
     names: &[u8],
@@ -44,18 +45,11 @@ pub fn schema_name_is_free(
     ensures { result ≡ not (any (λ v. clashes v.body.name (padded name.now))
         (schemas_at (schemas_in schemas.now names.now n) s.0)) }
 {
-    let mut i: usize = 0;
-    while i < n {
-        let taken = schema_takes_name(schemas, names, n, i, s, name);
-        if taken {
-            return false;
-        }
-        i += 1;
-    }
-    true
+    !(0..n).any(|i| schema_takes_name(schemas, names, n, i, s, name))
 }
 
 // Whether the table i is live at s in the schema and has the name.
+#[tactic(auto, using(lists::proofs::Runs::record_fits), unfolding(ducklake::specs::Arguments::clashes, ducklake::specs::Liveness::live, lists::specs::Runs::field))]
 fn table_takes_name(
     tables: &[u64],
     names: &[u8],
@@ -74,7 +68,7 @@ fn table_takes_name(
     let live = is_live(l, s);
     let of = table_schema(tables, i);
     let same = is_named(names, i, name);
-    same & ((of.0 == schema.0) & live)
+    same & ((of == schema) & live)
 }
 
 // Whether no table of the schema that is live at s has the name.
@@ -90,13 +84,5 @@ pub fn table_name_is_free(
     ensures { result ≡ not (any (λ v. clashes v.body.name (padded name.now))
         (tables_at (tables_in tables.now names.now n) s.0 schema.0)) }
 {
-    let mut i: usize = 0;
-    while i < n {
-        let taken = table_takes_name(tables, names, n, i, schema, s, name);
-        if taken {
-            return false;
-        }
-        i += 1;
-    }
-    true
+    !(0..n).any(|i| table_takes_name(tables, names, n, i, schema, s, name))
 }

@@ -12,13 +12,14 @@ use layout::record::{
 };
 
 // "schema_version rises by one for kinds 1, 2, 6, 7 only."
+#[tactic(auto, unfolding(ducklake::specs::Kinds::raises_schema_version, lists::specs::Lists::any))]
 fn raises_schema_version(kind: u64) -> bool
     ensures { result ≡ raises_schema_version kind }
 {
-    (kind == CREATED_SCHEMA)
-        | (kind == CREATED_TABLE)
-        | (kind == DROPPED_SCHEMA)
-        | (kind == DROPPED_TABLE)
+    matches!(
+        kind,
+        CREATED_SCHEMA | CREATED_TABLE | DROPPED_SCHEMA | DROPPED_TABLE
+    )
 }
 
 // The schema version of a snapshot of that kind after one of version `latest`.
@@ -26,11 +27,7 @@ fn next_schema_version(latest: u64, kind: u64) -> u64
     requires { latest ≤ number_limit }
     ensures { result ≡ latest + bit (raises_schema_version kind) }
 {
-    let raises = raises_schema_version(kind);
-    if raises {
-        return latest + 1;
-    }
-    latest
+    latest + u64::from(raises_schema_version(kind))
 }
 
 // The snapshot after the latest, with so many catalog and file ids taken.
@@ -58,6 +55,8 @@ pub fn next_snapshot(
 }
 
 // "4 a number would pass 2^62": whether those of a snapshot don't.
+// Stays: one limit bounds the numbers of every type of id, and plain numbers.
+#[tactic(auto, unfolding(ducklake::specs::Soundness::snapshot_in_range))]
 pub fn snapshot_fits(s: SnapshotRecord) -> bool
     ensures { result ≡ snapshot_in_range (snapshot_of s) }
 {

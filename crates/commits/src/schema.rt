@@ -10,6 +10,7 @@ use lookup::life::{is_live, life_at};
 use records::table::table_schema;
 
 // Whether the table i is live at s in the schema.
+#[tactic(auto, unfolding(ducklake::specs::Liveness::live, lists::specs::Runs::field))]
 fn table_is_in(tables: &[u64], i: usize, schema: CatalogId, s: SnapshotId) -> bool
     requires { table_size * i + table_size ≤ length tables.now }
     ensures { (names : List ℕ) → result ≡ (eqb (table_at tables.now names i).body.schema schema.0
@@ -18,7 +19,7 @@ fn table_is_in(tables: &[u64], i: usize, schema: CatalogId, s: SnapshotId) -> bo
     let l = life_at(tables, TableRecord::SIZE, TableRecord::BEGIN, i);
     let live = is_live(l, s);
     let of = table_schema(tables, i);
-    (of.0 == schema.0) & live
+    (of == schema) & live
 }
 
 // "11 schema not empty": whether no table of the schema is live at s.
@@ -26,13 +27,11 @@ pub fn schema_is_empty(tables: &[u64], n: usize, schema: CatalogId, s: SnapshotI
     requires { table_size * n ≤ length tables.now }
     ensures { (names : List ℕ) → result ≡ not (non_empty (tables_at (tables_in tables.now names n) s.0 schema.0)) }
 {
-    let mut i: usize = 0;
-    while i < n {
+    for i in 0..n {
         let held = table_is_in(tables, i, schema, s);
         if held {
             return false;
         }
-        i += 1;
     }
     true
 }

@@ -14,14 +14,12 @@ fn uuid_is_nowhere(w: &[u64], size: usize, word: usize, n: usize, uuid: Uuid) ->
     requires { (size * n ≤ length w.now) × (word + 1 < size) }
     ensures { result ≡ all (λ p. not (eqb uuid.high p.0 && eqb uuid.low p.1)) (pairs size word (word + 1) w.now n) }
 {
-    let mut i: usize = 0;
-    while i < n {
+    for i in 0..n {
         let high = field_at(w, size, word, i);
         let low = field_at(w, size, word + 1, i);
-        if (uuid.high == high) & (uuid.low == low) {
+        if uuid == (Uuid { high, low }) {
             return false;
         }
-        i += 1;
     }
     true
 }

@@ -14,6 +14,7 @@ use layout::record::{
     ColumnRecord, DataFileRecord, DeleteFileRecord, ScheduledRecord, SchemaRecord, SnapshotRecord,
     StatisticsRecord, TableRecord,
 };
+use layout::tables::Tables;
 use paths::path::PATH_LENGTH;
 use std::io;
 use std::io::Write;
@@ -87,23 +88,21 @@ fn write_diary(text: &mut [u8]) -> usize
         begun.counts,
         &mut area,
     );
-    write_listing(
-        &snapshots,
-        &schemas,
-        &schema_names,
-        &tables,
-        &table_names,
-        &columns,
-        &column_names,
-        &data_files,
-        &delete_files,
-        &positions,
-        &statistics,
-        &scheduled,
-        ended.counts,
-        &mut area,
-        text,
-    )
+    let lent = Tables {
+        snapshots: &snapshots,
+        schemas: &schemas,
+        schema_names: &schema_names,
+        tables: &tables,
+        table_names: &table_names,
+        columns: &columns,
+        column_names: &column_names,
+        data_files: &data_files,
+        delete_files: &delete_files,
+        positions: &positions,
+        statistics: &statistics,
+        scheduled: &scheduled,
+    };
+    write_listing(lent, ended.counts, &mut area, text)
 }
 
 fn main(rt: HostRuntime) -> io::Result<()> {

@@ -25,6 +25,7 @@ const POSITION_ONE: [u64; 1] = [1];
 const POSITION_ZERO: [u64; 1] = [0];
 
 // "130: 2 rows, item 4 to 5, price 20 to 20, one null. 140: delete position 1 of file 0. 150: delete position 0 of file 0."
+// The runs one by one: the calls of the C interface take them so.
 pub fn end_session(
     snapshots: &mut [u64],
     schemas: &mut [u64],

@@ -2,40 +2,51 @@
 #![tactic(auto)]
 
 ghost use Rattle.std.specs.Prelude.{◌+◌, ◌≤◌, length};
-ghost use Rattle.layout.specs.Lent.{lent_now, read_at_entry};
+ghost use Rattle.layout.specs.Lent.{words_lent};
 ghost use Rattle.paths.specs.Text.{Written};
 ghost use Rattle.paths.specs.Lengths.{path_length};
-ghost use Rattle.file_lookup.specs.Runs.{FilesLent};
 ghost use Rattle.diary_session.specs.Listing.{path_of, delete_path_of, line, lines, listing};
 ghost use Rattle.diary_session.specs.Room.{Room};
+ghost use Rattle.diary_listing.specs.Files.{Lent};
 
 use diary_session::DIARY;
 use file_lookup::copy::copy_file;
-use layout::number::{ABSENT, CatalogId, FileId, SnapshotId};
+use layout::number::{CatalogId, FileId, SnapshotId};
 use layout::outcome::Counts;
 use layout::record::{DataFileRecord, Uuid};
+use layout::tables::Tables;
 use paths::path::write_path;
 use paths::text::write_bytes;
 use refusals::checked::Checked;
 use scans::files::list_table_files;
 use soundness::checked::check;
 
-// The path of a file, by the record that its id names.
-fn write_file_path<'a>(
+// A file list has the ids of a data file and of its delete file, one after the other.
+const LISTED_SIZE: usize = 2;
+
+// The files as they were checked: what the check gave, the two runs that a file's record may lie in, and the counts.
+#[derive(Clone, Copy)]
+struct Files<'a> {
     checked: Checked,
     data_files: &'a [u64],
     delete_files: &'a [u64],
     counts: Counts,
-    id: FileId,
-    text: &mut [u8],
-    at: usize,
-) -> usize
-    requires { FilesLent checked data_files.now delete_files.now counts × (at + path_length ≤ length text.old) }
-    ensures { (l : FilesLent checked data_files.now delete_files.now counts)
-        → Written text.old at (path_of l.words counts id.0) text.new result }
+}
+
+// The path of a file, by the record that its id names.
+fn write_file_path(files: Files, id: FileId, text: &mut [u8], at: usize) -> usize
+    requires { Lent files × (at + path_length ≤ length text.old) }
+    ensures { (l : Lent files.entry) → Written text.old at (path_of l.words files.entry.counts id.0) text.new result }
 {
     let mut found = [0u64; DataFileRecord::SIZE];
-    copy_file(checked, data_files, delete_files, counts, id, &mut found);
+    copy_file(
+        files.checked,
+        files.data_files,
+        files.delete_files,
+        files.counts,
+        id,
+        &mut found,
+    );
     let uuid = Uuid {
         high: found[DataFileRecord::UUID_HIGH],
         low: found[DataFileRecord::UUID_LOW],
@@ -44,163 +55,73 @@ fn write_file_path<'a>(
 }
 
 // "path of the delete file or nothing"
-fn write_delete_path<'a>(
-    checked: Checked,
-    data_files: &'a [u64],
-    delete_files: &'a [u64],
-    counts: Counts,
-    id: FileId,
-    text: &mut [u8],
-    at: usize,
-) -> usize
-    requires { FilesLent checked data_files.now delete_files.now counts
-        × ((l : FilesLent checked data_files.now delete_files.now counts) → Room text.old at (delete_path_of l.words counts id.0)) }
-    ensures { (l : FilesLent checked data_files.now delete_files.now counts)
-        → Written text.old at (delete_path_of l.words counts id.0) text.new result }
+fn write_delete_path(files: Files, id: FileId, text: &mut [u8], at: usize) -> usize
+    requires { Lent files × ((l : Lent files) → Room text.old at (delete_path_of l.words files.counts id.0)) }
+    ensures { (l : Lent files.entry) → Written text.old at (delete_path_of l.words files.entry.counts id.0) text.new result }
 {
-    if id.0 == ABSENT {
+    if id == FileId::ABSENT {
         return at;
     }
-    write_file_path(checked, data_files, delete_files, counts, id, text, at)
+    write_file_path(files, id, text, at)
 }
 
 // "path of the data file, comma, path of the delete file or nothing", and LF
-fn write_line<'a>(
-    checked: Checked,
-    data_files: &'a [u64],
-    delete_files: &'a [u64],
-    counts: Counts,
+fn write_line(
+    files: Files,
     data_file: FileId,
     delete_file: FileId,
     text: &mut [u8],
     at: usize,
 ) -> usize
-    requires { FilesLent checked data_files.now delete_files.now counts
-        × ((l : FilesLent checked data_files.now delete_files.now counts)
-        → Room text.old at (line l.words counts data_file.0 delete_file.0)) }
-    ensures { (l : FilesLent checked data_files.now delete_files.now counts)
-        → Written text.old at (line l.words counts data_file.0 delete_file.0) text.new result }
+    requires { Lent files × ((l : Lent files) → Room text.old at (line l.words files.counts data_file.0 delete_file.0)) }
+    ensures { (l : Lent files.entry)
+        → Written text.old at (line l.words files.entry.counts data_file.0 delete_file.0) text.new result }
 {
-    let comma = write_file_path(
-        checked,
-        data_files,
-        delete_files,
-        counts,
-        data_file,
-        text,
-        at,
-    );
+    let comma = write_file_path(files, data_file, text, at);
     let second = write_bytes(text, comma, b",");
-    let end = write_delete_path(
-        checked,
-        data_files,
-        delete_files,
-        counts,
-        delete_file,
-        text,
-        second,
-    );
+    let end = write_delete_path(files, delete_file, text, second);
     write_bytes(text, end, b"\n")
 }
 
 // A line for each file of a file list.
-fn write_lines<'a>(
-    checked: Checked,
-    data_files: &'a [u64],
-    delete_files: &'a [u64],
-    counts: Counts,
-    listed: &[u64],
-    text: &mut [u8],
-    at: usize,
-) -> usize
-    requires { FilesLent checked data_files.now delete_files.now counts
-        × ((l : FilesLent checked data_files.now delete_files.now counts) → Room text.old at (lines l.words counts listed.now)) }
-    ensures { (l : FilesLent checked data_files.now delete_files.now counts)
-        → Written text.old at (lines l.words counts listed.now) text.new result }
+fn write_lines(files: Files, listed: &[u64], text: &mut [u8], at: usize) -> usize
+    requires { Lent files × ((l : Lent files) → Room text.old at (lines l.words files.counts listed.now)) }
+    ensures { (l : Lent files.entry) → Written text.old at (lines l.words files.entry.counts listed.now) text.new result }
 {
     let mut end = at;
-    let mut k: usize = 0;
-    while k + 1 < listed.len() {
-        let data_file = FileId(listed[k]);
-        let delete_file = FileId(listed[k + 1]);
-        end = write_line(
-            checked,
-            data_files,
-            delete_files,
-            counts,
-            data_file,
-            delete_file,
-            text,
-            end,
-        );
-        k += 2;
+    for k in 0..listed.len() / LISTED_SIZE {
+        let data_file = FileId(listed[LISTED_SIZE * k]);
+        let delete_file = FileId(listed[LISTED_SIZE * k + 1]);
+        end = write_line(files, data_file, delete_file, text, end);
     }
     end
 }
 
 // "a header line, then the files at 5"
-pub fn write_listing<'a>(
-    snapshots: &[u64],
-    schemas: &[u64],
-    schema_names: &[u8],
-    tables: &[u64],
-    table_names: &[u8],
-    columns: &[u64],
-    column_names: &[u8],
-    data_files: &'a [u64],
-    delete_files: &'a [u64],
-    positions: &[u64],
-    statistics: &[u64],
-    scheduled: &[u64],
-    counts: Counts,
-    area: &mut [u64],
-    text: &mut [u8],
-) -> usize
-    requires { Room text.old 0 (listing
-        (lent_now snapshots schemas schema_names tables table_names columns column_names data_files delete_files positions statistics scheduled)
-        counts area.old) }
-    ensures { Written text.old 0
-        (listing
-        (read_at_entry snapshots schemas schema_names tables table_names columns column_names data_files delete_files positions statistics scheduled)
-        counts area.old)
-        text.new result }
+pub fn write_listing(lent: Tables, counts: Counts, area: &mut [u64], text: &mut [u8]) -> usize
+    requires { Room text.old 0 (listing (words_lent lent) counts area.old) }
+    ensures { Written text.old 0 (listing (words_lent lent.entry) counts area.old) text.new result }
 {
-    let checked = check(
-        snapshots,
-        schemas,
-        schema_names,
-        tables,
-        table_names,
-        columns,
-        column_names,
-        data_files,
-        delete_files,
-        positions,
-        statistics,
-        scheduled,
-        counts,
-    );
-    let files = list_table_files(
+    let checked = check(lent, counts);
+    let listed = list_table_files(
         checked,
-        snapshots,
-        tables,
-        data_files,
-        delete_files,
-        statistics,
+        lent.snapshots,
+        lent.tables,
+        lent.data_files,
+        lent.delete_files,
+        lent.statistics,
         counts,
         SnapshotId(5),
         CatalogId(DIARY),
         area,
     );
-    let n = files.length;
+    let n = listed.length;
     let first = write_bytes(text, 0, b"data_file,delete_file\n");
-    write_lines(
+    let files = Files {
         checked,
-        data_files,
-        delete_files,
+        data_files: lent.data_files,
+        delete_files: lent.delete_files,
         counts,
-        &area[..n],
-        text,
-        first,
-    )
+    };
+    write_lines(files, &area[..n], text, first)
 }

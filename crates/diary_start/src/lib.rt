@@ -35,6 +35,7 @@ const THREE_ROWS: [u64; COLUMNS * STATISTICS_ARGUMENT_SIZE] = [
 ];
 
 // "Fresh at time 100. 110: table `diary` in schema 0, `item` int64 without nulls, `price` int64 with. 120: 3 rows, item 1 to 3, price 9 to 14, no nulls."
+// The runs one by one: the calls of the C interface take them so.
 pub fn begin_session(
     snapshots: &mut [u64],
     schemas: &mut [u64],

@@ -6,7 +6,7 @@ ghost use Rattle.drops.specs.Lent.{DropSchemaLent, drop_schema_leaves, DropTable
 use crate::refuse::{ONE_SNAPSHOT, refuse_drop_schema, refuse_drop_table};
 use crate::write::{write_drop_schema, write_drop_table};
 use layout::number::CatalogId;
-use layout::outcome::{ACCEPTED, Counts, Outcome, Terms};
+use layout::outcome::{Counts, Outcome, Terms};
 use refusals::checked::Checked;
 use refusals::room::counts_after;
 
@@ -25,23 +25,14 @@ pub fn drop_schema(
         → Promise (perform (commit_at terms (drop_schema schema.0)) l.words counts area) result
         (drop_schema_leaves l.words snapshots.new schemas.new) area }
 {
-    let number = refuse_drop_schema(checked, snapshots, schemas, tables, counts, terms, schema);
-    if number != ACCEPTED {
-        return Outcome {
-            number,
-            place: 0,
-            length: 0,
-            counts,
-        };
+    if let Err(refusal) = refuse_drop_schema(
+        checked, snapshots, schemas, tables, counts, terms, schema,
+    ) {
+        return Outcome::refused(refusal, counts);
     }
     write_drop_schema(snapshots, schemas, counts, terms, schema);
     let after = counts_after(counts, ONE_SNAPSHOT);
-    Outcome {
-        number: ACCEPTED,
-        place: 0,
-        length: 0,
-        counts: after,
-    }
+    Outcome::accepted(0, after)
 }
 
 // 'Drop table' on tables that were checked: refused, or written.
@@ -63,14 +54,8 @@ pub fn drop_table(
         (drop_table_leaves l.words snapshots.new tables.new columns.new data_files.new
         delete_files.new) area }
 {
-    let number = refuse_drop_table(checked, snapshots, tables, counts, terms, table);
-    if number != ACCEPTED {
-        return Outcome {
-            number,
-            place: 0,
-            length: 0,
-            counts,
-        };
+    if let Err(refusal) = refuse_drop_table(checked, snapshots, tables, counts, terms, table) {
+        return Outcome::refused(refusal, counts);
     }
     write_drop_table(
         snapshots,
@@ -83,10 +68,5 @@ pub fn drop_table(
         table,
     );
     let after = counts_after(counts, ONE_SNAPSHOT);
-    Outcome {
-        number: ACCEPTED,
-        place: 0,
-        length: 0,
-        counts: after,
-    }
+    Outcome::accepted(0, after)
 }

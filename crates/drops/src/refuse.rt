@@ -1,4 +1,5 @@
 ghost use Rattle.std.specs.Prelude.{◌≡◌, true, ℕ};
+ghost use Rattle.layout.specs.Refusals.{number_of};
 ghost use Rattle.layout.specs.Words.{Words};
 ghost use Rattle.ducklake.specs.Commits.{drop_table, drop_schema};
 ghost use Rattle.ducklake.specs.Calls.{commit_at, refusal};
@@ -9,14 +10,13 @@ use commits::number::{next_snapshot, snapshot_fits};
 use commits::schema::schema_is_empty;
 use commits::time::is_in_time;
 use layout::number::CatalogId;
-use layout::outcome::{
-    Counts, NO_ROOM, NOT_LIVE, NOT_SOUND, NUMBER_TOO_LARGE, SCHEMA_NOT_EMPTY, TIME_FALLS, Terms,
-};
+use layout::outcome::{Counts, Terms};
 use layout::record::{DROPPED_SCHEMA, DROPPED_TABLE};
+use layout::refusal::Refusal;
 use lookup::find::latest_snapshot;
 use lookup::live::{schema_is_live, table_is_live};
 use refusals::checked::Checked;
-use refusals::first::first_refusal;
+use refusals::first::first_refused;
 use refusals::room::has_room;
 
 // What a drop adds.
@@ -32,7 +32,7 @@ pub const ONE_SNAPSHOT: Counts = Counts {
     scheduled: 0,
 };
 
-// The number of 'drop schema' on tables that were checked: of its tests, in the definition's order, the first that isn't passed.
+// The refusal of 'drop schema' on tables that were checked: of its tests, in the definition's order, the first that isn't passed.
 pub fn refuse_drop_schema(
     checked: Checked,
     snapshots: &[u64],
@@ -41,13 +41,13 @@ pub fn refuse_drop_schema(
     counts: Counts,
     terms: Terms,
     schema: CatalogId,
-) -> u64
+) -> Result<(), Refusal>
     requires { checked.sound ≡ true → DropSchemaChecked snapshots.now schemas.now tables.now counts }
     ensures { (w : Words) → w.snapshots ≡ snapshots.now → w.schemas ≡ schemas.now → w.tables ≡ tables.now
-        → checked ≡ checked_of w counts → (m : ℕ) → result ≡ refusal w counts m (commit_at terms (drop_schema schema.0)) }
+        → checked ≡ checked_of w counts → (m : ℕ) → number_of result ≡ refusal w counts m (commit_at terms (drop_schema schema.0)) }
 {
     if !checked.sound {
-        return NOT_SOUND;
+        return Err(Refusal::NotSound);
     }
     let latest = latest_snapshot(snapshots, counts.snapshots);
     let live = schema_is_live(schemas, counts.schemas, schema, latest.id);
@@ -56,18 +56,16 @@ pub fn refuse_drop_schema(
     let next = next_snapshot(latest, terms.time, DROPPED_SCHEMA, schema, 0, 0);
     let fits = snapshot_fits(next);
     let room = has_room(checked.room, counts, ONE_SNAPSHOT);
-    let numbers = [
-        NOT_LIVE,
-        TIME_FALLS,
-        SCHEMA_NOT_EMPTY,
-        NUMBER_TOO_LARGE,
-        NO_ROOM,
-    ];
-    let passed = [live, in_time, empty, fits, room];
-    first_refusal(&numbers, &passed)
+    first_refused(&[
+        (live, Refusal::NotLive),
+        (in_time, Refusal::TimeFalls),
+        (empty, Refusal::SchemaNotEmpty),
+        (fits, Refusal::NumberTooLarge),
+        (room, Refusal::NoRoom),
+    ])
 }
 
-// The number of 'drop table' on tables that were checked.
+// The refusal of 'drop table' on tables that were checked.
 pub fn refuse_drop_table(
     checked: Checked,
     snapshots: &[u64],
@@ -75,13 +73,13 @@ pub fn refuse_drop_table(
     counts: Counts,
     terms: Terms,
     table: CatalogId,
-) -> u64
+) -> Result<(), Refusal>
     requires { checked.sound ≡ true → DropTableChecked snapshots.now tables.now counts }
     ensures { (w : Words) → w.snapshots ≡ snapshots.now → w.tables ≡ tables.now
-        → checked ≡ checked_of w counts → (m : ℕ) → result ≡ refusal w counts m (commit_at terms (drop_table table.0)) }
+        → checked ≡ checked_of w counts → (m : ℕ) → number_of result ≡ refusal w counts m (commit_at terms (drop_table table.0)) }
 {
     if !checked.sound {
-        return NOT_SOUND;
+        return Err(Refusal::NotSound);
     }
     let latest = latest_snapshot(snapshots, counts.snapshots);
     let live = table_is_live(tables, counts.tables, table, latest.id);
@@ -89,7 +87,10 @@ pub fn refuse_drop_table(
     let next = next_snapshot(latest, terms.time, DROPPED_TABLE, table, 0, 0);
     let fits = snapshot_fits(next);
     let room = has_room(checked.room, counts, ONE_SNAPSHOT);
-    let numbers = [NOT_LIVE, TIME_FALLS, NUMBER_TOO_LARGE, NO_ROOM];
-    let passed = [live, in_time, fits, room];
-    first_refusal(&numbers, &passed)
+    first_refused(&[
+        (live, Refusal::NotLive),
+        (in_time, Refusal::TimeFalls),
+        (fits, Refusal::NumberTooLarge),
+        (room, Refusal::NoRoom),
+    ])
 }

@@ -1,9 +1,7 @@
 -- The file lookup: "A file id names one row, of the data files or of the delete files, and looking it up gives that record itself, as a part of its
 -- table. The lookup takes no snapshot. An id in neither gives 6; every refusal gives an empty part."
-use Rattle.std.specs.Prelude.{ℕ, ◌*◌, ◌≡◌, Bool, true, false, cond, List, [], ◌∷◌, ◌++◌, leb, eqb, length, take, drop}
+use Rattle.std.specs.Prelude.{ℕ, ◌*◌, ◌≡◌, Bool, true, false, cond, List, [], ◌∷◌, ◌++◌, leb, eqb, length, take, drop, None, Option, Some}
 use Rattle.std.specs.Borrow.{Bor}
-use Rattle.lists.specs.declared.Found.{Found}
-use Rattle.lists.specs.declared.Found.TheVariants.{At, Nothing}
 use Rattle.lists.specs.Lists.{place}
 use Rattle.lists.specs.Runs.{PartOf}
 use Rattle.layout.specs.declared.outcome.Counts.{Counts}
@@ -21,9 +19,9 @@ pub data FilePlace : Type 0 where
   nowhere : FilePlace
 
 -- a place that was found, or else
-abbrev pub found_or : Found → (ℕ → FilePlace) → FilePlace → FilePlace
-found_or (At i) there other = there i
-found_or Nothing there other = other
+abbrev pub found_or : Option ℕ → (ℕ → FilePlace) → FilePlace → FilePlace
+found_or (Some i) there other = there i
+found_or None there other = other
 
 -- "A file id names one row, of the data files or of the delete files"
 unfoldable pub place_of_file : Catalog → ℕ → FilePlace

@@ -3,3 +3,4 @@ pub mod Merged
 pub mod Refused
 pub mod Expirable
 pub mod Retained
+pub mod Listed

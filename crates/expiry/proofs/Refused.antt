@@ -19,7 +19,7 @@ use Rattle.call_laws.proofs.Expiry.{scheduled_length, expire_room}
 use Rattle.call_laws.proofs.Refusals.{sound_fits}
 use Rattle.refusals.specs.declared.checked.Checked.{Checked}
 use Rattle.refusals.specs.Checked.{checked_of}
-use Rattle.expiry.specs.Remaining.{RemainingIds, ids_in}
+use Rattle.expiry.specs.Remaining.{ids_left}
 use Rattle.expiry.specs.Removed.{data_file_goes, delete_file_goes, files_removed}
 use Rattle.expiry.proofs.Retained.{data_files_removed, delete_files_removed}
 
@@ -39,13 +39,13 @@ module _ (w : Words) (c : Counts) (ids : List ℕ) where
     latest_as e h = h ∙ rw (e, ← p) refl
 
     -- the files that go, counted by their places
-    pub files_removed_lem : {fs ds left : List ℕ} {m f d : ℕ} → w.data_files ≡ fs → w.delete_files ≡ ds → RemainingIds ns c.snapshots ids left m
-        → f ≡ length (filter (data_file_goes fs (ids_in left m)) (range 0 c.data_files))
-        → d ≡ length (filter (delete_file_goes ds (ids_in left m)) (range 0 c.delete_files))
+    pub files_removed_lem : {fs ds left : List ℕ} {f d : ℕ} → w.data_files ≡ fs → w.delete_files ≡ ds → left ≡ ids_left ns c.snapshots ids
+        → f ≡ length (filter (data_file_goes fs left) (range 0 c.data_files))
+        → d ≡ length (filter (delete_file_goes ds left) (range 0 c.delete_files))
         → f + d ≡ files_removed (load w c) ids
     unfolding files_removed load
-    files_removed_lem {left = left} {m = m} q r L a b =
-        let l : RemainingIds w.snapshots c.snapshots ids left m = rw p L in
+    files_removed_lem {left = left} q r L a b =
+        let l : left ≡ ids_left w.snapshots c.snapshots ids = rw p L in
         ap₂ (λ (x y : ℕ). x + y) (data_files_removed w c ids 0 l (rw q a)) (delete_files_removed w c ids 0 l (rw r b))
 
   -- 2: room for them is all that an expiry needs

@@ -1,22 +1,14 @@
 -- The snapshots that an expiry leaves, by their ids in the first words of a run, and which records are live at one of them.
 use Rattle.std.specs.Prelude.{ℕ, ◌+◌, ◌*◌, ◌≤◌, ◌<◌, ◌≡◌, Bool, true, List, map, ltb, length}
 use Rattle.lists.specs.Lists.{chained}
-use Rattle.lists.specs.Runs.{fields}
 use Rattle.layout.specs.Words.{snapshot_at, snapshots_in, table_limit}
 use Rattle.ducklake.specs.Maintenance.{leaves, remaining}
-use Rattle.lookup.specs.Order.{ById, SnapshotsById}
+use Rattle.lookup.specs.Order.{SnapshotsById}
 use Rattle.lookup.specs.Versions.{life_at, with_life, live_among}
 
 -- a list of ids has one word each
 abbrev pub id_size : ℕ
 id_size = 1
-
-abbrev pub ids_in : List ℕ → ℕ → List ℕ
-ids_in run m = fields id_size 0 run m
-
--- the first m words ascend, so that each can be found
-abbrev pub Ids : List ℕ → ℕ → Type 0
-Ids run m = ById id_size 0 run m
 
 -- the snapshots and a list of ids that ascends
 pub record Expirable (snapshots : List ℕ) (n : ℕ) (ids : List ℕ) : Type 0 where
@@ -24,10 +16,9 @@ pub record Expirable (snapshots : List ℕ) (n : ℕ) (ids : List ℕ) : Type 0 
   pub few : n ≤ table_limit
   pub ascending : chained ltb ids ≡ true
 
--- the first r words are the ids of the snapshots that remain of the first n
-pub record RemainingIds (snapshots : List ℕ) (n : ℕ) (ids run : List ℕ) (r : ℕ) : Type 0 where
-  pub by_id : Ids run r
-  pub are : ids_in run r ≡ map (λ s. s.id) (remaining (snapshots_in snapshots n) ids)
+-- the ids of the snapshots that remain of the first n
+abbrev pub ids_left : List ℕ → ℕ → List ℕ → List ℕ
+ids_left snapshots n ids = map (λ s. s.id) (remaining (snapshots_in snapshots n) ids)
 
 -- whether the snapshot at a place remains
 abbrev pub snapshot_stays : List ℕ → List ℕ → ℕ → Bool
@@ -37,9 +28,8 @@ snapshot_stays snapshots ids j = leaves ids (snapshot_at snapshots j)
 abbrev pub stays : ℕ → ℕ → List ℕ → List ℕ → ℕ → Bool
 stays size life run ids j = live_among ids (with_life (life_at size life run j))
 
--- n such records, and the m ids
-pub record Versions (size life : ℕ) (run : List ℕ) (n : ℕ) (ids : List ℕ) (m : ℕ) : Type 0 where
+-- n such records
+pub record Versions (size life : ℕ) (run : List ℕ) (n : ℕ) : Type 0 where
   pub held : size * n ≤ length run
   pub inside : life + 1 < size
   pub few : n ≤ table_limit
-  pub by_id : Ids ids m

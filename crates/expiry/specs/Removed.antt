@@ -46,12 +46,12 @@ removed_files data_files n delete_files k ids time = sort_by (λ x. x.file)
     (map (data_file_scheduled data_files time) (filter (data_file_goes data_files ids) (range 0 n))
     ++ map (delete_file_scheduled delete_files time) (filter (delete_file_goes delete_files ids) (range 0 k)))
 
--- both tables, in which files are found by id, and the m ids
-pub record Files (data_files : List ℕ) (n : ℕ) (delete_files : List ℕ) (k : ℕ) (ids : List ℕ) (m : ℕ) : Type 0 where
+-- both tables, in which files are found by id
+pub record Files (data_files : List ℕ) (n : ℕ) (delete_files : List ℕ) (k : ℕ) : Type 0 where
   pub data_files_by_id : DataFilesById data_files n
   pub delete_files_by_id : DeleteFilesById delete_files k
-  pub data_file_versions : Versions data_file_size data_file_begin_word data_files n ids m
-  pub delete_file_versions : Versions delete_file_size delete_file_begin_word delete_files k ids m
+  pub data_file_versions : Versions data_file_size data_file_begin_word data_files n
+  pub delete_file_versions : Versions delete_file_size delete_file_begin_word delete_files k
 
 -- records behind the `used` of a run, and how many are used then
 pub record ScheduledMore (xs : List Scheduled) (run : List ℕ) (used r : ℕ) (run' : List ℕ) : Type 0 where

@@ -6,9 +6,9 @@ ghost use Rattle.ducklake.specs.Arguments.{expiry_list_fits};
 ghost use Rattle.lookup.specs.Order.{SnapshotsById};
 
 use layout::number::SnapshotId;
-use lists::Found;
 use lookup::live::is_retained;
-use runs::fields::{field_at, fields_ascend, find_field};
+use runs::fields::Fields;
+use runs::words::words_ascend;
 
 // A list of ids has one word each.
 pub const ID_SIZE: usize = 1;
@@ -18,14 +18,10 @@ pub fn all_retained(snapshots: &[u64], n: usize, ids: &[u64]) -> bool
     requires { SnapshotsById snapshots.now n }
     ensures { result ≡ all (retained (snapshots_in snapshots.now n)) ids.now }
 {
-    let mut i: usize = 0;
-    while i < ids.len() {
-        let id = field_at(ids, ID_SIZE, 0, i);
-        let ok = is_retained(snapshots, n, SnapshotId(id));
-        if !ok {
+    for id in ids {
+        if !is_retained(snapshots, n, SnapshotId(*id)) {
             return false;
         }
-        i += 1;
     }
     true
 }
@@ -34,10 +30,7 @@ pub fn all_retained(snapshots: &[u64], n: usize, ids: &[u64]) -> bool
 pub fn list_fits(ids: &[u64]) -> bool
     ensures { result ≡ expiry_list_fits ids.now }
 {
-    if ids.len() == 0 {
-        return false;
-    }
-    fields_ascend(ids, ID_SIZE, 0, ids.len())
+    !ids.is_empty() && words_ascend(ids)
 }
 
 // Whether an ascending list has a snapshot.
@@ -45,24 +38,18 @@ pub fn is_listed(ids: &[u64], s: SnapshotId) -> bool
     requires { chained ltb ids.now ≡ true }
     ensures { result ≡ has s.0 ids.now }
 {
-    let found = find_field(ids, ID_SIZE, 0, ids.len(), s.0);
-    match found {
-        Found::At(_) => true,
-        Found::Nothing => false,
-    }
+    let listed = Fields {
+        words: ids,
+        size: ID_SIZE,
+        at: 0,
+        n: ids.len(),
+    };
+    listed.find(s.0).is_some()
 }
 
 // Whether a list, in whatever order that is, lacks a snapshot.
 pub fn lacks(ids: &[u64], s: SnapshotId) -> bool
     ensures { result ≡ not (has s.0 ids.now) }
 {
-    let mut i: usize = 0;
-    while i < ids.len() {
-        let id = field_at(ids, ID_SIZE, 0, i);
-        if id == s.0 {
-            return false;
-        }
-        i += 1;
-    }
-    true
+    !ids.contains(&s.0)
 }

@@ -2,16 +2,16 @@ ghost use Rattle.std.specs.Prelude.{◌*◌, ◌≤◌, length};
 ghost use Rattle.lists.specs.Pieces.{row_pieces, Compacted, flagged};
 ghost use Rattle.layout.specs.Fields.{snapshot_size, delete_file_size};
 ghost use Rattle.layout.specs.Words.{positions_before, position_pieces};
-ghost use Rattle.expiry.specs.Remaining.{ids_in, Expirable, snapshot_stays, Versions};
+ghost use Rattle.expiry.specs.Remaining.{Expirable, snapshot_stays, Versions};
 ghost use Rattle.expiry.specs.Stayed.{RecordsLeft, NamedLeft, NamedVersions, Located, PositionsLeft, StatisticsOfFiles, StatisticsLeft};
 
-use crate::flag::{flag_live, flag_snapshots, flag_statistics};
+use crate::flag::{Records, flag_snapshots, flag_statistics};
+use crate::remaining::Remaining;
 use layout::number::{NAME_SIZE, TABLE_LIMIT};
 use layout::record::{DeleteFileRecord, SnapshotRecord, StatisticsRecord};
 use records::delete_file::delete_file_delete_count;
 use runs::flags::is_flagged;
-use runs::kept_bytes::keep_places;
-use runs::kept_words::{clear_words, keep_records, move_words};
+use runs::kept::keep_rows;
 
 // What stays of each table; how many records are left. The snapshots that are not listed:
 pub fn expire_listed(snapshots: &mut [u64], n: usize, ids: &[u64]) -> usize
@@ -21,24 +21,24 @@ pub fn expire_listed(snapshots: &mut [u64], n: usize, ids: &[u64]) -> usize
 {
     let mut flags = [0u8; TABLE_LIMIT];
     flag_snapshots(snapshots, n, ids, &mut flags);
-    keep_records(snapshots, SnapshotRecord::SIZE, n, &flags)
+    keep_rows(snapshots, SnapshotRecord::SIZE, n, &flags, 0)
 }
 
-// records that are live at one of the first m ids,
-pub fn expire_records(
-    w: &mut [u64],
-    size: usize,
-    life: usize,
-    n: usize,
-    left: &[u64],
-    m: usize,
-) -> usize
-    requires { Versions size life w.old n left.now m }
-    ensures { RecordsLeft size life w.old n (ids_in left.now m) result w.new }
+// records that are live at one of the ids that remain,
+// Stays: `Records` lends its words to read; here they are written.
+pub fn expire_records(w: &mut [u64], size: usize, life: usize, n: usize, left: Remaining) -> usize
+    requires { Versions size life w.old n }
+    ensures { RecordsLeft size life w.old n left.entry.ids.now result w.new }
 {
     let mut flags = [0u8; TABLE_LIMIT];
-    flag_live(w, size, life, n, left, m, &mut flags);
-    keep_records(w, size, n, &flags)
+    let records = Records {
+        words: w,
+        size,
+        life,
+        n,
+    };
+    records.flag_live(left, &mut flags);
+    keep_rows(w, size, n, &flags, 0)
 }
 
 // with their names,
@@ -48,16 +48,21 @@ pub fn expire_named(
     size: usize,
     life: usize,
     n: usize,
-    left: &[u64],
-    m: usize,
+    left: Remaining,
 ) -> usize
-    requires { NamedVersions size life w.old names.old n left.now m }
-    ensures { NamedLeft size life w.old names.old n (ids_in left.now m) result w.new names.new }
+    requires { NamedVersions size life w.old names.old n }
+    ensures { NamedLeft size life w.old names.old n left.entry.ids.now result w.new names.new }
 {
     let mut flags = [0u8; TABLE_LIMIT];
-    flag_live(w, size, life, n, left, m, &mut flags);
-    keep_places(names, NAME_SIZE, n, &flags);
-    keep_records(w, size, n, &flags)
+    let records = Records {
+        words: w,
+        size,
+        life,
+        n,
+    };
+    records.flag_live(left, &mut flags);
+    keep_rows(names, NAME_SIZE, n, &flags, 0);
+    keep_rows(w, size, n, &flags, 0)
 }
 
 // statistics whose data file stays,
@@ -66,15 +71,14 @@ pub fn expire_statistics(
     n: usize,
     data_files: &[u64],
     k: usize,
-    left: &[u64],
-    m: usize,
+    left: Remaining,
 ) -> usize
-    requires { StatisticsOfFiles statistics.old n data_files.now k left.now m }
-    ensures { StatisticsLeft statistics.old n data_files.now k (ids_in left.now m) result statistics.new }
+    requires { StatisticsOfFiles statistics.old n data_files.now k }
+    ensures { StatisticsLeft statistics.old n data_files.now k left.entry.ids.now result statistics.new }
 {
     let mut flags = [0u8; TABLE_LIMIT];
-    flag_statistics(statistics, n, data_files, k, left, m, &mut flags);
-    keep_records(statistics, StatisticsRecord::SIZE, n, &flags)
+    flag_statistics(statistics, n, data_files, k, left, &mut flags);
+    keep_rows(statistics, StatisticsRecord::SIZE, n, &flags, 0)
 }
 
 // The positions of the flagged of n delete files; how many they are.
@@ -86,19 +90,16 @@ fn keep_positions(positions: &mut [u64], delete_files: &[u64], n: usize, flags: 
 {
     let mut k: usize = 0;
     let mut at: usize = 0;
-    let mut i: usize = 0;
-    while i < n {
-        let stays = is_flagged(flags, i);
+    for i in 0..n {
         let count = delete_file_delete_count(delete_files, i) as usize;
-        let here = at;
-        at += count;
-        i += 1;
-        if stays {
-            move_words(positions, k, here, count);
+        let end = at + count;
+        if is_flagged(flags, i) {
+            positions.copy_within(at..end, k);
             k += count;
         }
+        at = end;
     }
-    clear_words(positions, k, at);
+    positions[k..at].fill(0);
     k
 }
 
@@ -107,21 +108,18 @@ pub fn expire_positions(
     positions: &mut [u64],
     delete_files: &[u64],
     n: usize,
-    left: &[u64],
-    m: usize,
+    left: Remaining,
 ) -> usize
-    requires { Located delete_files.now positions.old n left.now m }
-    ensures { PositionsLeft delete_files.now positions.old n (ids_in left.now m) result positions.new }
+    requires { Located delete_files.now positions.old n }
+    ensures { PositionsLeft delete_files.now positions.old n left.entry.ids.now result positions.new }
 {
     let mut flags = [0u8; TABLE_LIMIT];
-    flag_live(
-        delete_files,
-        DeleteFileRecord::SIZE,
-        DeleteFileRecord::BEGIN,
+    let records = Records {
+        words: delete_files,
+        size: DeleteFileRecord::SIZE,
+        life: DeleteFileRecord::BEGIN,
         n,
-        left,
-        m,
-        &mut flags,
-    );
+    };
+    records.flag_live(left, &mut flags);
     keep_positions(positions, delete_files, n, &flags)
 }

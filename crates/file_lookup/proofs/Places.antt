@@ -1,32 +1,33 @@
 -- Where a file's record lies: told by the catalog and by the runs, it is the same place; the promises of the part that lies there and of its copy.
+use Rattle.std.specs.Prelude.{None, Option, Some, Result, Ok, Err}
 use Prim.Native.Nat.{ℕ}
 use mathlib.Core.Path.{◌≡◌, refl, sym, ap, ap₂, ◌∙◌}
 use mathlib.Core.Bool.{Bool, true, false, not}
-use mathlib.Core.List.{List, [], ◌∷◌}
+use mathlib.Core.List.{List, ◌∷◌}
 use native.Mathlib.Omega.{arith}
 use lib.Dec.{eqb}
 use borrow.Author.Tests.{not-true}
 use denote.Ref.{Bor}
-use Rattle.lists.specs.declared.Found.{Found}
-use Rattle.lists.specs.declared.Found.TheVariants.{At, Nothing}
 use Rattle.lists.specs.Lists.{range, place}
 use Rattle.lists.specs.Runs.{field}
 use Rattle.lists.proofs.Places.{place_map}
 use Rattle.layout.specs.declared.outcome.Counts.{Counts}
+use Rattle.layout.specs.declared.refusal.Refusal.{Refusal}
+use Rattle.layout.specs.Refusals.{number_of, length_of}
 use Rattle.layout.specs.Fields.{data_file_size, data_file_id_word, delete_file_size, delete_file_id_word}
 use Rattle.layout.specs.Words.{Words, load, data_file_at, data_files_in, delete_file_at, delete_files_in}
 use Rattle.ducklake.specs.Soundness.{sound}
-use Rattle.ducklake.specs.Refusals.{accepted, not_sound, not_live, refuse_unless}
+use Rattle.ducklake.specs.Refusals.{accepted, not_sound}
 use Rattle.ducklake.specs.Calls.{Promise}
-use Rattle.ducklake.specs.Lookup.{FilePlace, in_data_files, in_delete_files, nowhere, found_or, place_of_file, is_somewhere, lookup_refusals, LiesAt, words_at, lookup, LookupPromise, lookup_answer, lookup_refusal, perform_lookup}
+use Rattle.ducklake.specs.Lookup.{FilePlace, in_data_files, in_delete_files, nowhere, found_or, place_of_file, lookup_refusals, LiesAt, words_at, lookup, LookupPromise, lookup_answer, lookup_refusal, perform_lookup}
 use Rattle.ducklake.proofs.facts.FirstRefusals.{unless_passed}
 use Rattle.call_laws.proofs.Promises.{outcome}
 use Rattle.lookup.specs.Order.{place_of}
 use Rattle.refusals.specs.declared.checked.Checked.{Checked}
 use Rattle.refusals.specs.Checked.{checked_of}
-use Rattle.readings.specs.declared.answer.Answer.{Answer}
 use Rattle.readings.specs.Answers.{Answered}
 use Rattle.readings.proofs.Promises.{tests_refuse, tests_pass}
+use Rattle.file_lookup.specs.Parts.{FoundAt, PromisedPart}
 use Rattle.file_lookup.specs.Runs.{place_in, FilesLent}
 
 data_file_place : (run : List ℕ) (n k : ℕ) → place (λ f. eqb f.id k) 0 (data_files_in run n) ≡ place_of data_file_size data_file_id_word run n k
@@ -41,15 +42,15 @@ place_in_lem : (w : Words) (c : Counts) (k : ℕ) → place_of_file (load w c) k
 unfolding place_of_file load
 place_in_lem w c k = ap₂ (λ a b. found_or a in_data_files (found_or b in_delete_files nowhere)) (data_file_place w.data_files c.data_files k) (delete_file_place w.delete_files w.positions c.delete_files k)
 
-module _ (fs : List ℕ) (n : ℕ) (ds : List ℕ) (m k : ℕ) {r : Found} (e : r ≡ place_of data_file_size data_file_id_word fs n k) where
-  pub found_data_file : {i : ℕ} → r ≡ At i → place_in fs n ds m k ≡ in_data_files i
+module _ (fs : List ℕ) (n : ℕ) (ds : List ℕ) (m k : ℕ) {r : Option ℕ} (e : r ≡ place_of data_file_size data_file_id_word fs n k) where
+  pub found_data_file : {i : ℕ} → r ≡ Some i → place_in fs n ds m k ≡ in_data_files i
   found_data_file g = rw (sym e ∙ g) refl
 
-  module _ {q : Found} (f : q ≡ place_of delete_file_size delete_file_id_word ds m k) (h : r ≡ Nothing) where
-    pub found_delete_file : {i : ℕ} → q ≡ At i → place_in fs n ds m k ≡ in_delete_files i
+  module _ {q : Option ℕ} (f : q ≡ place_of delete_file_size delete_file_id_word ds m k) (h : r ≡ None) where
+    pub found_delete_file : {i : ℕ} → q ≡ Some i → place_in fs n ds m k ≡ in_delete_files i
     found_delete_file g = rw (sym e ∙ h, sym f ∙ g) refl
 
-    pub found_nowhere : q ≡ Nothing → place_in fs n ds m k ≡ nowhere
+    pub found_nowhere : q ≡ None → place_in fs n ds m k ≡ nowhere
     found_nowhere g = rw (sym e ∙ h, sym f ∙ g) refl
 
 abbrev pub files_lent : (w : Words) (c : Counts) {checked : Checked} → checked ≡ checked_of w c → FilesLent checked w.data_files w.delete_files c
@@ -62,29 +63,29 @@ lies_words w a b part (in_data_files i) e f h = sym (h.words ∙ rw (← e) refl
 lies_words w a b part (in_delete_files i) e f h = sym (h.words ∙ rw (← f) refl)
 lies_words w a b part nowhere e f h = sym h
 
-module _ (w : Words) (c : Counts) (k : ℕ) (a b part : Bor (List ℕ)) where
-  pub part_refused : {checked : Checked} → checked ≡ checked_of w c → not checked.sound ≡ true → part.now ≡ [] → LookupPromise (lookup w c k) a b part not_sound
+module _ (w : Words) (c : Counts) (k : ℕ) where
+  pub part_refused : {checked : Checked} → checked ≡ checked_of w c → not checked.sound ≡ true → (not_sound ≡ (lookup w c k).number) × ((lookup w c k).part ≡ nowhere)
   unfolding lookup
-  part_refused {checked} e h q = let u : sound w c ≡ false = sym (ap (λ k. k.sound) e) ∙ not-true checked.sound h in rw u (record { number = refl; part = q })
+  part_refused {checked} e h = let u : sound w c ≡ false = sym (ap (λ k. k.sound) e) ∙ not-true checked.sound h in rw u (refl, refl)
 
-  module _ (e : w.data_files ≡ a.now) (f : w.delete_files ≡ b.now) where
-    pub part_found : {n : ℕ} → sound w c ≡ true → LiesAt a b part (place_in a.now c.data_files b.now c.delete_files k)
-        → n ≡ refuse_unless not_live (is_somewhere (place_in a.now c.data_files b.now c.delete_files k)) accepted → LookupPromise (lookup w c k) a b part n
+  abbrev tests : List (ℕ × Bool)
+  tests = (not_sound, sound w c) ∷ lookup_refusals (load w c) k
+
+  -- the copy of a part that is refused
+  pub copy_refused : (area : List ℕ) {n : ℕ} → n ≡ (lookup w c k).number → (n ≡ 0 → ⊥) → Promise (perform_lookup k w c area) (outcome n 0 0 c) w area
+  unfolding lookup perform_lookup lookup_refusal
+  copy_refused area e z = tests_refuse tests (omega arith) (lookup_answer w c k) w c area e z
+
+  module _ (a b : Bor (List ℕ)) (e : w.data_files ≡ a.now) (f : w.delete_files ≡ b.now) where
+    pub part_found : (r : Result (Bor (List ℕ)) Refusal) → sound w c ≡ true → FoundAt a b r (place_in a.now c.data_files b.now c.delete_files k) → PromisedPart (lookup w c k) a b r
     unfolding lookup
-    part_found h l q = rw (h, place_in_lem w c k, e, f) (record { number = q; part = l })
+    part_found (Ok part) h l = rw (h, place_in_lem w c k, e, f, l.1) (record { number = refl; part = l.0 })
+    part_found (Err refusal) h l = rw (h, place_in_lem w c k, e, f, l.0, l.1) (refl, refl)
 
-    -- The copy, from what the lookup of the part left
-
-    abbrev tests : List (ℕ × Bool)
-    tests = (not_sound, sound w c) ∷ lookup_refusals (load w c) k
-
-    module _ {n : ℕ} (l : LookupPromise (lookup w c k) a b part n) (area : List ℕ) where
-      pub copy_refused : (n ≡ 0 → ⊥) → Promise (perform_lookup k w c area) (outcome n 0 0 c) w area
-      unfolding lookup perform_lookup lookup_refusal
-      copy_refused z = tests_refuse tests (omega arith) (lookup_answer w c k) w c area l.number z
-
-      pub copy_answered : {area' : List ℕ} {r : Answer} → n ≡ 0 → Answered part.now area r area' → Promise (perform_lookup k w c area) (outcome r.number 0 r.length c) w area'
-      unfolding lookup perform_lookup lookup_refusal lookup_answer
-      copy_answered z q =
-          let h = (unless_passed not_sound (sound w c) _ (omega arith) (sym l.number ∙ z)).0 in
-          tests_pass tests (omega arith) (lookup_answer w c k) w c area l.number z (lies_words w a b part (place_of_file (load w c) k) e f (rw h at l.part)) q
+    -- the copy of one that is found
+    pub copy_answered : (area : List ℕ) {part : Bor (List ℕ)} {area' : List ℕ} {r : Result ℕ Refusal} → LookupPromise (lookup w c k) a b part accepted → Answered part.now area r area'
+        → Promise (perform_lookup k w c area) (outcome (number_of r) 0 (length_of r) c) w area'
+    unfolding lookup perform_lookup lookup_refusal lookup_answer
+    copy_answered area {part = part} l q =
+        let h = (unless_passed not_sound (sound w c) _ (omega arith) (sym l.number)).0 in
+        tests_pass tests (omega arith) (lookup_answer w c k) w c area l.number refl (lies_words w a b part (place_of_file (load w c) k) e f (rw h at l.part)) q

@@ -7,7 +7,7 @@ use lib.Dec.{eqb}
 use lib.IntN.{ℤ, pos, negsuc}
 use lib.ListN.{length, replicate, take}
 use Rattle.lists.specs.Lists.{range, all, any, agree, sum}
-use Rattle.lists.specs.Runs.{replace}
+use Rattle.lists.specs.Runs.{replace_by}
 use Rattle.layout.specs.declared.outcome.Counts.{Counts}
 use Rattle.layout.specs.Catalog.{absent, number_limit, record_count_limit, column_limit, Catalog}
 use Rattle.layout.specs.Records.{uuid_of, snapshot_words, schema_words, table_words, column_words, data_file_words, delete_file_words, statistics_words, scheduled_words}
@@ -192,11 +192,11 @@ stored_words : (agree (agree eqb)
     ∷ (99 ∷ replicate 63 0)
     ∷ [])
     && counts_as (1 ∷ 1 ∷ 1 ∷ 1 ∷ 1 ∷ 2 ∷ 3 ∷ 1 ∷ 1 ∷ []) (counts_of catalog)) ≡ true
-unfolding flat_map counts counts_as lent catalog stored store counts_of padded range agree sum replace snapshot_words schema_words table_words column_words data_file_words delete_file_words statistics_words scheduled_words
+unfolding flat_map counts counts_as lent catalog stored store counts_of padded range agree sum replace_by snapshot_words schema_words table_words column_words data_file_words delete_file_words statistics_words scheduled_words
 stored_words = refl
 
 -- "the counts add up to the used positions": one more and one fewer do not fit
 stored_fits : (fits stored (counts_of catalog) && not (fits stored (counts 1 1 1 1 1 2 4 1 1)) && not (fits stored (counts 1 1 1 1 1 2 2 1 1))
     && not (fits stored (counts 3 1 1 1 1 2 3 1 1))) ≡ true
-unfolding flat_map counts lent catalog stored store counts_of capacity within fits padded range sum replace positions_before snapshot_words schema_words table_words column_words data_file_words delete_file_words statistics_words scheduled_words
+unfolding flat_map counts lent catalog stored store counts_of capacity within fits padded range sum replace_by positions_before snapshot_words schema_words table_words column_words data_file_words delete_file_words statistics_words scheduled_words
 stored_fits = refl

@@ -2,6 +2,7 @@
 use Rattle.std.specs.Prelude.{List, ℕ}
 use Rattle.std.specs.Borrow.{Bor, MutBor}
 use denote.Triple.Both.{Both}
+use Rattle.layout.specs.declared.tables.Tables.{Tables}
 use Rattle.layout.specs.Words.{Words, lent_by}
 
 -- a lent run, and a parameter that is one: what it is at entry and at exit
@@ -37,3 +38,7 @@ at_exit = lent_by (λ run. run.exit.now)
 
 abbrev pub read_at_exit : ReadRun → ReadRun → ReadRun → ReadRun → ReadRun → ReadRun → ReadRun → ReadRun → ReadRun → ReadRun → ReadRun → ReadRun → Words
 read_at_exit = lent_by (λ run. run.exit.now)
+
+-- what a struct of the twelve runs lends
+abbrev pub words_lent : Tables → Words
+words_lent t = lent_by (λ x. x.now) t.snapshots t.schemas t.schema_names t.tables t.table_names t.columns t.column_names t.data_files t.delete_files t.positions t.statistics t.scheduled

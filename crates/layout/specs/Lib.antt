@@ -1,7 +1,9 @@
 pub mod Catalog
 pub mod Fields
+pub mod Kinds
 pub mod Lent
 pub mod Names
 pub mod Records
+pub mod Refusals
 pub mod Types
 pub mod Words

@@ -1,20 +1,30 @@
 // The standard's four counters, a type each: a file number is never taken for a row number.
 #[repr(C)]
-#[derive(Clone, Copy)]
+#[derive(Clone, Copy, PartialEq, Eq, PartialOrd, Ord)]
 pub struct SnapshotId(pub u64);
+
+impl SnapshotId {
+    // An end that is not set.
+    pub const ABSENT: SnapshotId = SnapshotId(ABSENT);
+}
 
 // Schemas and tables.
 #[repr(C)]
-#[derive(Clone, Copy)]
+#[derive(Clone, Copy, PartialEq, Eq, PartialOrd, Ord)]
 pub struct CatalogId(pub u64);
 
 // Data files and delete files.
 #[repr(C)]
-#[derive(Clone, Copy)]
+#[derive(Clone, Copy, PartialEq, Eq, PartialOrd, Ord)]
 pub struct FileId(pub u64);
 
+impl FileId {
+    // No file.
+    pub const ABSENT: FileId = FileId(ABSENT);
+}
+
 #[repr(C)]
-#[derive(Clone, Copy)]
+#[derive(Clone, Copy, PartialEq, Eq, PartialOrd, Ord)]
 pub struct RowId(pub u64);
 
 // An end that is not set.

@@ -30,7 +30,8 @@ pub struct Outcome {
     pub counts: Counts,
 }
 
-// The number of an accepted call, and those of refusals, by who causes them: the host,
+// Stays: the C header and Rust hosts take these numbers from here (`refusal::Refusal` is the enum). That of an accepted call,
+// and those of refusals, by who causes them: the host,
 pub const ACCEPTED: u64 = 0;
 
 pub const NOT_SOUND: u64 = 1;

@@ -2,7 +2,7 @@ use crate::number::{CatalogId, FileId, RowId, SnapshotId};
 
 // The records of the lent tables, fields in the order of their words. Names and positions lie in runs of their own.
 #[repr(C)]
-#[derive(Clone, Copy)]
+#[derive(Clone, Copy, PartialEq, Eq)]
 pub struct Uuid {
     pub high: u64,
     pub low: u64,
@@ -38,6 +38,8 @@ impl SnapshotRecord {
 }
 
 // The kinds of change that a snapshot records.
+// Stays: a lent word may be none of these numbers (`kind::ChangeKind` is the enum), and `commits::number::next_snapshot` promises
+// its answer of any number.
 pub const CREATED_SCHEMA: u64 = 1;
 
 pub const CREATED_TABLE: u64 = 2;

@@ -1,22 +1,16 @@
--- The answers of listings by the runs that they are lent, and what those of one id rely on.
+-- The answers of listings by the runs that they are lent.
 use Prim.Native.Nat.{ℕ}
 use mathlib.Core.Path.{◌≡◌, refl, ◌∙◌}
-use mathlib.Core.Bool.{Bool, true, ◌&&◌}
+use mathlib.Core.Bool.{Bool, ◌&&◌}
 use mathlib.Core.List.{List, [], ◌∷◌, map}
-use native.Mathlib.Omega.{arith}
 use lib.ListN.{take}
 use Rattle.lists.specs.Lists.{non_empty, highest, sort_by}
-use Rattle.lists.proofs.Tests.{both}
 use Rattle.layout.specs.declared.outcome.Counts.{Counts}
 use Rattle.layout.specs.Names.{is_name_argument}
 use Rattle.layout.specs.Words.{Words, load, snapshots_in, schemas_in, tables_in, columns_in}
-use Rattle.ducklake.specs.Liveness.{retained, is_live, schemas_at, tables_at, columns_at}
-use Rattle.ducklake.specs.Refusals.{not_retained, not_live, no_snapshot_by_then}
+use Rattle.ducklake.specs.Liveness.{schemas_at, tables_at, columns_at}
 use Rattle.ducklake.specs.Readings.{schemas, tables, columns, table_named, tables_named, query_answer, snapshots_by_time}
 use Rattle.ducklake.specs.Calls.{query_at, by_time, reading_answer}
-use Rattle.ducklake.proofs.facts.FirstRefusals.{unless_passed}
-use Rattle.refusals.specs.Checked.{unanswered}
-use Rattle.readings.proofs.Promises.{reading_passed}
 
 module _ (w : Words) (c : Counts) (s : ℕ) {run : List ℕ} where
   pub schemas_answer : w.schemas ≡ run → reading_answer (load w c) (query_at s schemas) ≡ map (λ v. v.id) (schemas_at (schemas_in run w.schema_names c.schemas) s)
@@ -44,15 +38,6 @@ module _ (w : Words) (c : Counts) (s schema : ℕ) (name : List ℕ) {run names 
   unfolding load
   named_as p q = rw (p, q, ← e, ← f) refl
 
-  -- a reading by name that is not refused: a table bears the name
-  pub named_some : {n : ℕ} → n ≡ unanswered w c (query_at s (table_named schema name)) → n ≡ 0 → non_empty (tables_named (tables_in run names c.tables) s schema name) ≡ true
-  unfolding load
-  named_some g z =
-      let a = unless_passed not_retained (retained (load w c).snapshots s) _ (omega arith) (reading_passed w c (query_at s (table_named schema name)) g z) in
-      let b = unless_passed not_live (is_live (load w c).schemas s schema) _ (omega arith) a.1 in
-      let d = (unless_passed not_live (is_name_argument name && non_empty (tables_named (tables_in w.tables w.table_names c.tables) s schema name)) 0 (omega arith) b.1).0 in
-      rw (e, f) at (both (is_name_argument name) (non_empty (tables_named (tables_in w.tables w.table_names c.tables) s schema name)) d).1
-
 module _ (w : Words) (c : Counts) (t : ℕ) {run : List ℕ} (e : w.snapshots ≡ run) where
   pub by_time_answer : {x : ℕ} → x ≡ highest (snapshots_by_time (snapshots_in run c.snapshots) t) → reading_answer (load w c) (by_time t) ≡ x ∷ []
   unfolding reading_answer load
@@ -61,7 +46,3 @@ module _ (w : Words) (c : Counts) (t : ℕ) {run : List ℕ} (e : w.snapshots �
   pub by_time_as : {b : Bool} → b ≡ non_empty (snapshots_by_time (snapshots_in run c.snapshots) t) → b ≡ non_empty (snapshots_by_time (load w c).snapshots t)
   unfolding load
   by_time_as h = h ∙ rw (← e) refl
-
-  pub by_time_some : {n : ℕ} → n ≡ unanswered w c (by_time t) → n ≡ 0 → non_empty (snapshots_by_time (snapshots_in run c.snapshots) t) ≡ true
-  unfolding load
-  by_time_some g z = rw e at (unless_passed no_snapshot_by_then (non_empty (snapshots_by_time (snapshots_in w.snapshots c.snapshots) t)) _ (omega arith) (reading_passed w c (by_time t) g z)).0

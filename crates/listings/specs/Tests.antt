@@ -1,6 +1,5 @@
 -- The tests by which listings select tables, as the definitions of what a snapshot shows have them.
-use Rattle.std.specs.Prelude.{ℕ, ◌*◌, ◌≤◌, Bool, ◌&&◌, List, eqb, length}
-use Rattle.lists.specs.declared.Found.{Found}
+use Rattle.std.specs.Prelude.{ℕ, ◌*◌, ◌≤◌, Bool, ◌&&◌, List, eqb, length, Option}
 use Rattle.lists.specs.Lists.{place}
 use Rattle.layout.specs.Catalog.{Versioned, Table}
 use Rattle.layout.specs.Fields.{table_size}
@@ -16,7 +15,7 @@ abbrev pub is_named : ℕ → ℕ → List ℕ → Versioned Table → Bool
 is_named schema s name t = same_name t.body.name (padded name) && in_schema schema s t
 
 -- the place of the first one
-unfoldable pub place_of_named : List (Versioned Table) → ℕ → ℕ → List ℕ → Found
+unfoldable pub place_of_named : List (Versioned Table) → ℕ → ℕ → List ℕ → Option ℕ
 place_of_named ts s schema name = place (is_named schema s name) 0 ts
 
 -- n tables, and a name place for each

@@ -28,11 +28,8 @@ pub fn count_live(
     ensures { result ≡ length (places_live size begin run.now s.0 start «end») }
 {
     let mut k: usize = 0;
-    let mut i = start;
-    while i < end {
-        let live = is_live_at(run, size, begin, i, s);
-        i += 1;
-        if live {
+    for i in start..end {
+        if is_live_at(run, size, begin, i, s) {
             k += 1;
         }
     }

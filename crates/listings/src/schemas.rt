@@ -1,5 +1,6 @@
 ghost use Rattle.std.specs.Prelude.{◌≡◌, List, map, ℕ, ◌*◌, ◌≤◌, length};
 ghost use Rattle.layout.specs.Fields.{schema_size};
+ghost use Rattle.layout.specs.Refusals.{number_of};
 ghost use Rattle.layout.specs.Words.{schemas_in};
 ghost use Rattle.ducklake.specs.Liveness.{schemas_at};
 ghost use Rattle.ducklake.specs.Readings.{Query};
@@ -10,56 +11,55 @@ ghost use Rattle.listings.specs.Lent.{SnapshotsLent, SchemasLent};
 
 use crate::lives::{count_live, is_live_at};
 use layout::number::SnapshotId;
-use layout::outcome::{ACCEPTED, Counts, NOT_RETAINED, NOT_SOUND, Outcome, SHORT_ANSWER_AREA};
+use layout::outcome::{Counts, Outcome};
 use layout::record::SchemaRecord;
+use layout::refusal::Refusal;
 use lookup::live::is_retained;
-use readings::answer::Answer;
 use records::schema::schema_id;
 use refusals::checked::Checked;
-use refusals::first::first_refusal;
+use refusals::first::first_refused;
 
 // The answer of a reading of schemas: their ids, by ascending id.
-fn read_schemas(schemas: &[u64], n: usize, s: SnapshotId, area: &mut [u64]) -> Answer
+// Stays: one for this and `read_tables` would take closures for the count, the test and the id, and be no plainer.
+fn read_schemas(
+    schemas: &[u64],
+    n: usize,
+    s: SnapshotId,
+    area: &mut [u64],
+) -> Result<usize, Refusal>
     requires { schema_size * n ≤ length schemas.now }
     ensures { (names : List ℕ)
         → Answered (map (λ v. v.id) (schemas_at (schemas_in schemas.now names n) s.0)) area.old result area.new }
 {
     let length = count_live(schemas, SchemaRecord::SIZE, SchemaRecord::BEGIN, 0, n, s);
     if area.len() < length {
-        return Answer {
-            number: SHORT_ANSWER_AREA,
-            length: 0,
-        };
+        return Err(Refusal::ShortAnswerArea);
     }
     let mut k: usize = 0;
-    let mut i: usize = 0;
-    while i < n {
-        let id = schema_id(schemas, i);
-        let live = is_live_at(schemas, SchemaRecord::SIZE, SchemaRecord::BEGIN, i, s);
-        i += 1;
-        if live {
-            area[k] = id.0;
+    for i in 0..n {
+        if is_live_at(schemas, SchemaRecord::SIZE, SchemaRecord::BEGIN, i, s) {
+            area[k] = schema_id(schemas, i).0;
             k += 1;
         }
     }
-    Answer {
-        number: ACCEPTED,
-        length,
-    }
+    Ok(length)
 }
 
-// The number of a reading of schemas, before its answer's length is known.
-fn refuse_schemas(checked: Checked, snapshots: &[u64], counts: Counts, s: SnapshotId) -> u64
+// The refusal of a reading of schemas, before its answer's length is known.
+fn refuse_schemas(
+    checked: Checked,
+    snapshots: &[u64],
+    counts: Counts,
+    s: SnapshotId,
+) -> Result<(), Refusal>
     requires { SnapshotsLent checked snapshots.now counts }
-    ensures { (l : SnapshotsLent checked snapshots.now counts) → result ≡ unanswered l.words counts (query_at s.0 Query.schemas) }
+    ensures { (l : SnapshotsLent checked snapshots.now counts) → number_of result ≡ unanswered l.words counts (query_at s.0 Query.schemas) }
 {
     if !checked.sound {
-        return NOT_SOUND;
+        return Err(Refusal::NotSound);
     }
     let there = is_retained(snapshots, counts.snapshots, s);
-    let numbers = [NOT_RETAINED];
-    let passed = [there];
-    first_refusal(&numbers, &passed)
+    first_refused(&[(there, Refusal::NotRetained)])
 }
 
 // The schemas at a retained snapshot, of tables that were checked.
@@ -75,20 +75,9 @@ pub fn list_schemas(
     ensures { (l : SchemasLent checked snapshots.now schemas.now counts)
         → Promise (perform_reading (query_at s.0 Query.schemas) l.words counts area.old) result l.words area.new }
 {
-    let number = refuse_schemas(checked, snapshots, counts, s);
-    if number != ACCEPTED {
-        return Outcome {
-            number,
-            place: 0,
-            length: 0,
-            counts,
-        };
+    if let Err(refusal) = refuse_schemas(checked, snapshots, counts, s) {
+        return Outcome::refused(refusal, counts);
     }
     let answer = read_schemas(schemas, counts.schemas, s, area);
-    Outcome {
-        number: answer.number,
-        place: 0,
-        length: answer.length,
-        counts,
-    }
+    Outcome::answered(answer, counts)
 }

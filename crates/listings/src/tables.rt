@@ -1,5 +1,6 @@
 ghost use Rattle.std.specs.Prelude.{◌≡◌, List, map, ℕ, ◌+◌, ◌*◌, ◌≤◌, length};
 ghost use Rattle.layout.specs.Fields.{table_size};
+ghost use Rattle.layout.specs.Refusals.{number_of};
 ghost use Rattle.layout.specs.Words.{table_at, tables_in};
 ghost use Rattle.ducklake.specs.Liveness.{tables_at};
 ghost use Rattle.ducklake.specs.Readings.{Query};
@@ -10,18 +11,17 @@ ghost use Rattle.listings.specs.Lent.{SchemasLent, TablesLent};
 ghost use Rattle.listings.specs.Tests.{in_schema};
 
 use layout::number::{CatalogId, SnapshotId};
-use layout::outcome::{
-    ACCEPTED, Counts, NOT_LIVE, NOT_RETAINED, NOT_SOUND, Outcome, SHORT_ANSWER_AREA,
-};
+use layout::outcome::{Counts, Outcome};
 use layout::record::TableRecord;
+use layout::refusal::Refusal;
 use lookup::life::{is_live, life_at};
 use lookup::live::{is_retained, schema_is_live};
-use readings::answer::Answer;
 use records::table::{table_id, table_schema};
 use refusals::checked::Checked;
-use refusals::first::first_refusal;
+use refusals::first::first_refused;
 
 // Whether the table at the place i is one of the schema, live at s.
+// Stays: this and `scans::is_in_table` read records of another type each.
 pub fn is_in_schema(tables: &[u64], i: usize, schema: CatalogId, s: SnapshotId) -> bool
     requires { table_size * i + table_size ≤ length tables.now }
     ensures { (names : List ℕ) → result ≡ in_schema schema.0 s.0 (table_at tables.now names i) }
@@ -29,7 +29,7 @@ pub fn is_in_schema(tables: &[u64], i: usize, schema: CatalogId, s: SnapshotId) 
     let holder = table_schema(tables, i);
     let l = life_at(tables, TableRecord::SIZE, TableRecord::BEGIN, i);
     let live = is_live(l, s);
-    (holder.0 == schema.0) & live
+    (holder == schema) & live
 }
 
 // How many tables of the schema are live at s.
@@ -38,11 +38,8 @@ fn count_tables(tables: &[u64], n: usize, schema: CatalogId, s: SnapshotId) -> u
     ensures { (names : List ℕ) → result ≡ length (tables_at (tables_in tables.now names n) s.0 schema.0) }
 {
     let mut k: usize = 0;
-    let mut i: usize = 0;
-    while i < n {
-        let there = is_in_schema(tables, i, schema, s);
-        i += 1;
-        if there {
+    for i in 0..n {
+        if is_in_schema(tables, i, schema, s) {
             k += 1;
         }
     }
@@ -56,36 +53,27 @@ fn read_tables(
     schema: CatalogId,
     s: SnapshotId,
     area: &mut [u64],
-) -> Answer
+) -> Result<usize, Refusal>
     requires { table_size * n ≤ length tables.now }
     ensures { (names : List ℕ)
         → Answered (map (λ t. t.id) (tables_at (tables_in tables.now names n) s.0 schema.0)) area.old result area.new }
 {
     let length = count_tables(tables, n, schema, s);
     if area.len() < length {
-        return Answer {
-            number: SHORT_ANSWER_AREA,
-            length: 0,
-        };
+        return Err(Refusal::ShortAnswerArea);
     }
     let mut k: usize = 0;
-    let mut i: usize = 0;
-    while i < n {
-        let id = table_id(tables, i);
-        let there = is_in_schema(tables, i, schema, s);
-        i += 1;
-        if there {
-            area[k] = id.0;
+    for i in 0..n {
+        if is_in_schema(tables, i, schema, s) {
+            area[k] = table_id(tables, i).0;
             k += 1;
         }
     }
-    Answer {
-        number: ACCEPTED,
-        length,
-    }
+    Ok(length)
 }
 
-// The number of a reading of a schema's tables, before its answer's length is known.
+// The refusal of a reading of a schema's tables, before its answer's length is known.
+// Stays: `readings::refuse_table` is its twin over tables; one for both would take the test of what is read as a closure, and be no plainer.
 fn refuse_tables(
     checked: Checked,
     snapshots: &[u64],
@@ -93,19 +81,17 @@ fn refuse_tables(
     counts: Counts,
     schema: CatalogId,
     s: SnapshotId,
-) -> u64
+) -> Result<(), Refusal>
     requires { SchemasLent checked snapshots.now schemas.now counts }
     ensures { (l : SchemasLent checked snapshots.now schemas.now counts)
-        → result ≡ unanswered l.words counts (query_at s.0 (Query.tables schema.0)) }
+        → number_of result ≡ unanswered l.words counts (query_at s.0 (Query.tables schema.0)) }
 {
     if !checked.sound {
-        return NOT_SOUND;
+        return Err(Refusal::NotSound);
     }
     let there = is_retained(snapshots, counts.snapshots, s);
     let live = schema_is_live(schemas, counts.schemas, schema, s);
-    let numbers = [NOT_RETAINED, NOT_LIVE];
-    let passed = [there, live];
-    first_refusal(&numbers, &passed)
+    first_refused(&[(there, Refusal::NotRetained), (live, Refusal::NotLive)])
 }
 
 // The tables of a schema at a retained snapshot, of tables that were checked.
@@ -123,20 +109,9 @@ pub fn list_tables(
     ensures { (l : TablesLent checked snapshots.now schemas.now tables.now counts)
         → Promise (perform_reading (query_at s.0 (Query.tables schema.0)) l.words counts area.old) result l.words area.new }
 {
-    let number = refuse_tables(checked, snapshots, schemas, counts, schema, s);
-    if number != ACCEPTED {
-        return Outcome {
-            number,
-            place: 0,
-            length: 0,
-            counts,
-        };
+    if let Err(refusal) = refuse_tables(checked, snapshots, schemas, counts, schema, s) {
+        return Outcome::refused(refusal, counts);
     }
     let answer = read_tables(tables, counts.tables, schema, s, area);
-    Outcome {
-        number: answer.number,
-        place: 0,
-        length: answer.length,
-        counts,
-    }
+    Outcome::answered(answer, counts)
 }

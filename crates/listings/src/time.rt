@@ -1,58 +1,38 @@
-ghost use Rattle.std.specs.Prelude.{◌≡◌, true};
-ghost use Rattle.lists.specs.Lists.{non_empty, highest};
-ghost use Rattle.layout.specs.Words.{snapshots_in};
-ghost use Rattle.ducklake.specs.Readings.{snapshots_by_time};
-ghost use Rattle.ducklake.specs.Calls.{by_time, perform_reading, Promise};
-ghost use Rattle.lookup.specs.Order.{SnapshotsById, SnapshotsByTime};
+ghost use Rattle.std.specs.Prelude.{◌≡◌, ◌∷◌, [], IfOk};
+ghost use Rattle.layout.specs.Refusals.{number_of};
+ghost use Rattle.layout.specs.Words.{load};
+ghost use Rattle.ducklake.specs.Calls.{by_time, perform_reading, Promise, reading_answer};
 ghost use Rattle.refusals.specs.Checked.{unanswered};
 ghost use Rattle.listings.specs.Lent.{SnapshotsLent};
 
 use layout::number::SnapshotId;
-use layout::outcome::{ACCEPTED, Counts, NO_SNAPSHOT_BY_THEN, NOT_SOUND, Outcome};
-use lists::Found;
+use layout::outcome::{Counts, Outcome};
+use layout::refusal::Refusal;
 use lookup::find::latest_by;
 use readings::answer::answer_one;
 use records::snapshot::snapshot_id;
 use refusals::checked::Checked;
-use refusals::first::first_refusal;
 
-// Whether there is a snapshot at or before t.
-fn is_snapshot_by(snapshots: &[u64], n: usize, t: u64) -> bool
-    requires { SnapshotsById snapshots.now n × SnapshotsByTime snapshots.now n }
-    ensures { result ≡ non_empty (snapshots_by_time (snapshots_in snapshots.now n) t) }
-{
-    let found = latest_by(snapshots, n, t);
-    match found {
-        Found::At(_) => true,
-        Found::Nothing => false,
-    }
-}
-
-// The id of the latest one, where there is one.
-fn latest_id_by(snapshots: &[u64], n: usize, t: u64) -> SnapshotId
-    requires snapshots_by_id { SnapshotsById snapshots.now n × SnapshotsByTime snapshots.now n }
-    requires t_value { non_empty (snapshots_by_time (snapshots_in snapshots.now n) t) ≡ true }
-    ensures { result.0 ≡ highest (snapshots_by_time (snapshots_in snapshots.now n) t) }
-{
-    let found = latest_by(snapshots, n, t);
-    if let Found::At(i) = found {
-        return snapshot_id(snapshots, i);
-    }
-    SnapshotId(0)
-}
-
-// The number of a reading by time, before its answer's length is known.
-fn refuse_by_time(checked: Checked, snapshots: &[u64], counts: Counts, t: u64) -> u64
+// The id of the latest snapshot at or before t, of tables that were checked, or why there is none to read.
+fn latest_id_by(
+    checked: Checked,
+    snapshots: &[u64],
+    counts: Counts,
+    t: u64,
+) -> Result<SnapshotId, Refusal>
     requires { SnapshotsLent checked snapshots.now counts }
-    ensures { (l : SnapshotsLent checked snapshots.now counts) → result ≡ unanswered l.words counts (by_time t) }
+    ensures refusal { (l : SnapshotsLent checked snapshots.now counts)
+        → number_of result ≡ unanswered l.words counts (by_time t) }
+    ensures id { (l : SnapshotsLent checked snapshots.now counts)
+        → IfOk result (λ id. reading_answer (load l.words counts) (by_time t) ≡ id.0 ∷ []) }
 {
     if !checked.sound {
-        return NOT_SOUND;
+        return Err(Refusal::NotSound);
     }
-    let there = is_snapshot_by(snapshots, counts.snapshots, t);
-    let numbers = [NO_SNAPSHOT_BY_THEN];
-    let passed = [there];
-    first_refusal(&numbers, &passed)
+    match latest_by(snapshots, counts.snapshots, t) {
+        Some(i) => Ok(snapshot_id(snapshots, i)),
+        None => Err(Refusal::NoSnapshotByThen),
+    }
 }
 
 // The latest snapshot at or before a time, of tables that were checked.
@@ -67,21 +47,8 @@ pub fn find_snapshot_by_time(
     ensures { (l : SnapshotsLent checked snapshots.now counts)
         → Promise (perform_reading (by_time t) l.words counts area.old) result l.words area.new }
 {
-    let number = refuse_by_time(checked, snapshots, counts, t);
-    if number != ACCEPTED {
-        return Outcome {
-            number,
-            place: 0,
-            length: 0,
-            counts,
-        };
-    }
-    let id = latest_id_by(snapshots, counts.snapshots, t);
-    let answer = answer_one(id.0, area);
-    Outcome {
-        number: answer.number,
-        place: 0,
-        length: answer.length,
-        counts,
+    match latest_id_by(checked, snapshots, counts, t) {
+        Ok(id) => Outcome::answered(answer_one(id.0, area), counts),
+        Err(refusal) => Outcome::refused(refusal, counts),
     }
 }

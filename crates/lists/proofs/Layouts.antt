@@ -7,7 +7,7 @@ use native.Mathlib.Nat.{add_comm, mul-zero, mul-suc, zero-add}
 use lib.ListN.{length, get_or, take, drop, replicate, length-append, length-drop}
 use lib.Seq.{drop-cons, drop_at, drop-drop, take-add, take_all}
 use Rattle.lists.specs.Lists.{range}
-use Rattle.lists.specs.Runs.{replace, Layout, at, table, field, fields}
+use Rattle.lists.specs.Runs.{replace, Layout, at, table, field, fields, replace_by}
 use Rattle.lists.proofs.Selections.{map_ext}
 use Rattle.lists.proofs.Runs.{replace_kept}
 
@@ -73,5 +73,5 @@ module _ {A : Type 0} (L : Layout A) (F : Lawful L) where
       next = rw (mul-suc, ← drop-drop L.size (L.size * i) w, here) (drop_at (L.words r) (flat_map L.words rs ++ t) L.size (F.words_length r))
 
   pub table_replace : (old : List ℕ) (used : ℕ) (rs : List A) → table L (replace old used (flat_map L.words rs)) (length rs) ≡ rs
-  unfolding replace
+  unfolding replace_by
   table_replace old used rs = read_of_words rs (replace old used (flat_map L.words rs)) (replicate (used - length (flat_map L.words rs)) 0 ++ drop (max used (length (flat_map L.words rs))) old) 0 (rw mul-zero refl)

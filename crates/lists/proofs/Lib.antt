@@ -1,5 +1,7 @@
 pub mod Blocks
+pub mod Chains
 pub mod Compaction
+pub mod Comparisons
 pub mod Counts
 pub mod Flags
 pub mod Insertion

@@ -1,15 +1,15 @@
 -- Loops: what each comes to from the present turn on. The laws `-start`, `-pass`, `-fail`, `-next`, `-end` are cited at a function's needs.
+use Rattle.std.specs.Prelude.{None, Some}
 use Prim.Native.Nat.{ℕ, zero, suc, ◌+◌, ◌-◌, ◌≤◌, ◌<◌}
 use mathlib.Core.Path.{◌≡◌, refl, sym, ap, ap₂, ◌∙◌}
-use mathlib.Core.List.{List, [], ◌∷◌, map}
+use mathlib.Core.List.{List, [], ◌∷◌, map, append-nil}
 use mathlib.Core.Bool.{Bool, true, false, not}
 use native.Mathlib.Omega.{arith}
 use native.Mathlib.Numerals.{add-one}
 use native.Mathlib.Nat.{add-zero, zero-add}
-use lib.ListN.{length, take, set, replicate, length-map}
+use lib.ListN.{length, take, drop, set, replicate, length-map, length-set, length-replicate, drop_of_length-le}
 use lib.Seq.{take_all}
 use Rattle.lists.specs.Lists.{range, all, pairwise, chained, filter, place}
-use Rattle.lists.specs.declared.Found.TheVariants.{At, Nothing}
 use Rattle.lists.specs.Runs.{from, overwrite}
 use Rattle.lists.proofs.Tests.{passed, failed}
 use Rattle.lists.proofs.Runs.{overwrite_none, overwrite_set, overwrite_front}
@@ -88,7 +88,7 @@ module _ {A : Type 0} (f : ℕ → A) where
     pub place-start : (n : ℕ) → place p 0 (map f (range 0 n)) ≡ place p 0 (from f 0 n)
     place-start n = ap (place p 0) (from_all n)
 
-    pub place_hit : (i n : ℕ) → i < n → p (f i) ≡ true → place p i (from f i n) ≡ At i
+    pub place_hit : (i n : ℕ) → i < n → p (f i) ≡ true → place p i (from f i n) ≡ Some i
     unfolding place
     place_hit i n h e = rw (from_step i n h, e) refl
 
@@ -96,7 +96,7 @@ module _ {A : Type 0} (f : ℕ → A) where
     unfolding place
     place_miss i n h e = rw (from_step i n h, e, add-one) refl
 
-    pub place_end : (i n : ℕ) → n ≤ i → place p i (from f i n) ≡ Nothing
+    pub place_end : (i n : ℕ) → n ≤ i → place p i (from f i n) ≡ None
     unfolding place
     place_end i n h = rw (from_end i n h) refl
 
@@ -111,6 +111,16 @@ module _ {A : Type 0} (f : ℕ → A) where
     pub chained_fail : (i n : ℕ) → i + 1 < n → r (f i) (f (i + 1)) ≡ false → chained r (from f i n) ≡ false
     unfolding chained
     chained_fail i n h e = rw (from_step i n (omega arith), from_step (i + 1) n h, e) refl
+
+    -- where the later of two neighbours is at i
+    pub chained_turn : (i n : ℕ) → 1 ≤ i → i < n → r (f (i - 1)) (f i) ≡ true → chained r (from f (i - 1) n) ≡ chained r (from f (i + 1 - 1) n)
+    chained_turn i n g h e =
+        let before : i - 1 + 1 ≡ i = omega arith in
+        let after : i - 1 + 1 ≡ i + 1 - 1 = omega arith in
+        chained_pass (i - 1) n (omega arith) (rw before e) ∙ ap (λ k. chained r (from f k n)) after
+
+    pub chained_stop : (i n : ℕ) → 1 ≤ i → i < n → r (f (i - 1)) (f i) ≡ false → chained r (from f (i - 1) n) ≡ false
+    chained_stop i n g h e = let before : i - 1 + 1 ≡ i = omega arith in chained_fail (i - 1) n (omega arith) (rw before e)
 
     pub pairwise_start : (n : ℕ) → pairwise r (map f (range 0 n)) ≡ pairwise r (from f 0 n)
     pairwise_start n = ap (pairwise r) (from_all n)
@@ -131,18 +141,27 @@ module _ {A : Type 0} (f : ℕ → A) where
     unfolding chained
     chained_end i n h = chained_short r (from f i n) (rw (length-map, length-range) (omega arith))
 
--- a loop that clears the words from j up to e
-pub clear_next : (w : List ℕ) (j e : ℕ) → j < e → e ≤ length w → overwrite w j (replicate (e - j) 0) ≡ overwrite (set w j 0) (j + 1) (replicate (e - (j + 1)) 0)
-clear_next w j e h g = rw left_over (overwrite_set w j 0 (replicate (e - (j + 1)) 0) (omega arith))
-  where
-    left_over : e - j ≡ suc (e - (j + 1))
-    left_over = omega arith
+-- a loop that writes x at each place from j on
+module _ {A : Type 0} (x : A) where
+  pub filling : List A → ℕ → List A
+  filling w j = overwrite w j (replicate (length w - j) x)
 
-pub clear_end : (w : List ℕ) (j e : ℕ) → e ≤ j → overwrite w j (replicate (e - j) 0) ≡ w
-clear_end w j e h = rw left_over (overwrite_none w j)
-  where
-    left_over : e - j ≡ 0
-    left_over = omega arith
+  pub filling_start : (w : List A) → replicate (length w) x ≡ filling w 0
+  unfolding filling overwrite
+  filling_start w =
+      let whole : length w - 0 ≡ length w = omega arith in
+      let none : drop (0 + length (replicate (length w) x)) w ≡ [] = drop_of_length-le w (rw (zero-add, length-replicate) (omega arith)) in
+      rw (whole, none, append-nil) refl
+
+  pub filling_next : (w : List A) (j : ℕ) → j < length w → filling w j ≡ filling (set w j x) (j + 1)
+  unfolding filling
+  filling_next w j h =
+      let left : length w - j ≡ suc (length w - (j + 1)) = omega arith in
+      rw (left, length-set) (overwrite_set w j x (replicate (length w - (j + 1)) x) h)
+
+  pub filling_end : (w : List A) (j : ℕ) → length w ≤ j → filling w j ≡ w
+  unfolding filling
+  filling_end w j h = let none : length w - j ≡ 0 = omega arith in rw none (overwrite_none w j)
 
 -- a loop that writes what f gives at each place below n: what the run comes to from the place i on
 module _ (f : ℕ → ℕ) (n : ℕ) where

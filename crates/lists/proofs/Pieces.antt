@@ -7,7 +7,7 @@ use native.Mathlib.Nat.{add-zero, add-suc, suc-add, zero-add, add_assoc}
 use lib.ListN.{length, take, drop, length-drop}
 use lib.Seq.{drop-drop, drop_at, take_at, take-add, length-take-le}
 use Rattle.lists.specs.Lists.{range, sum}
-use Rattle.lists.specs.Runs.{replace}
+use Rattle.lists.specs.Runs.{replace, replace_by}
 use Rattle.lists.specs.Pieces.{Pieces, piece}
 use Rattle.lists.proofs.Members.{In, in_range_lem}
 use Rattle.lists.proofs.Selections.{flat_map_map, flat_map_length}
@@ -42,7 +42,7 @@ module _ (P : Pieces) where
       end = omega arith
 
   -- in a run that holds the first n pieces they have their sizes
-  pub pieces_length : (w : List ℕ) (n : ℕ) → P.start n ≤ length w → (j : ℕ) → In j (range 0 n) → length (piece P w j) ≡ P.size j
+  pub pieces_length : {A : Type 0} (w : List A) (n : ℕ) → P.start n ≤ length w → (j : ℕ) → In j (range 0 n) → length (piece P w j) ≡ P.size j
   pieces_length w n h j m =
       length-take-le (P.size j) (drop (P.start j) w) (rw length-drop (omega (arith, P.then j, sizes_from (n - suc j) (suc j), ap P.start end)))
     where
@@ -85,5 +85,5 @@ module _ (P : Pieces) where
     -- pieces that were written are read
     pub pieces_replace : (old : List ℕ) (used : ℕ) (xs : List A) → Sized P words xs
         → map (piece P (replace old used (flat_map words xs))) (range 0 (length xs)) ≡ map words xs
-    unfolding replace
+    unfolding replace_by
     pieces_replace old used xs s = read_of_words xs (replace old used (flat_map words xs)) _ 0 s (ap (λ (k : ℕ). drop k (replace old used (flat_map words xs))) P.first)

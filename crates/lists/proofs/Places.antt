@@ -1,4 +1,5 @@
 -- Lists of what a function gives at each place: their members, their parts, what holds at each place, the place of an element.
+use Rattle.std.specs.Prelude.{None, Option, Some}
 use Prim.Native.Nat.{ℕ, zero, suc, ◌+◌, ◌-◌, ◌≤◌, ◌<◌}
 use mathlib.Core.Path.{◌≡◌, refl, sym, ap, ◌∙◌, subst}
 use mathlib.Core.List.{List, [], ◌∷◌, ◌++◌, map}
@@ -9,8 +10,7 @@ use native.Mathlib.Omega.{arith}
 use native.Mathlib.Nat.{eq-or-lt_of_le, add-zero, add-suc, suc-add, zero-add}
 use lib.ListN.{length, get_or, take, length-map, length-take}
 use lib.Seq.{get_or-take}
-use Rattle.lists.specs.declared.Found.{Found}
-use Rattle.lists.specs.declared.Found.TheVariants.{At, Nothing}
+use Rattle.std.specs.Option.{is_some}
 use Rattle.lists.specs.Lists.{range, all, any, pairwise, place, last, has}
 use Rattle.lists.specs.Runs.{from}
 use Rattle.lists.proofs.Tests.{if, either, both, clash, same_test, eqb_swap}
@@ -70,25 +70,25 @@ module _ {A : Type 0} (f : ℕ → A) where
 pub place_map : {A B : Type 0} (p : B → Bool) (f : A → B) (i : ℕ) (xs : List A) → place p i (map f xs) ≡ place (λ x. p (f x)) i xs
 unfolding place
 place_map p f i [] = refl
-place_map p f i (x ∷ xs) = ap (cond (p (f x)) (At i)) (place_map p f (suc i) xs)
+place_map p f i (x ∷ xs) = ap (cond (p (f x)) (Some i)) (place_map p f (suc i) xs)
 
-pub place_nothing : {A : Type 0} (p : A → Bool) (i : ℕ) (xs : List A) → ((x : A) → In x xs → p x ≡ false) → place p i xs ≡ Nothing
+pub place_nothing : {A : Type 0} (p : A → Bool) (i : ℕ) (xs : List A) → ((x : A) → In x xs → p x ≡ false) → place p i xs ≡ None
 unfolding place
 place_nothing p i [] h = refl
 place_nothing p i (x ∷ xs) h = rw (h x (here refl)) (place_nothing p (suc i) xs (λ y m. h y (next m)))
 
 -- what the place of the first element that passes tells, and no place
-abbrev pub Placed : {A : Type 0} → (ℕ → A) → (A → Bool) → ℕ → ℕ → Found → Type 0
-Placed f p i n (At j) = (i ≤ j) × (j < n) × (p (f j) ≡ true) × ((k : ℕ) → i ≤ k → k < j → p (f k) ≡ false)
-Placed f p i n Nothing = (k : ℕ) → i ≤ k → k < n → p (f k) ≡ false
+abbrev pub Placed : {A : Type 0} → (ℕ → A) → (A → Bool) → ℕ → ℕ → Option ℕ → Type 0
+Placed f p i n (Some j) = (i ≤ j) × (j < n) × (p (f j) ≡ true) × ((k : ℕ) → i ≤ k → k < j → p (f k) ≡ false)
+Placed f p i n None = (k : ℕ) → i ≤ k → k < n → p (f k) ≡ false
 
 module _ {A : Type 0} (f : ℕ → A) (p : A → Bool) where
-  placed_here : (n i : ℕ) → i < n → p (f i) ≡ true → Placed f p i n (At i)
+  placed_here : (n i : ℕ) → i < n → p (f i) ≡ true → Placed f p i n (Some i)
   placed_here n i h e = (omega arith, h, e, λ k g l. absurd (omega arith))
 
-  placed_later : (n i : ℕ) → p (f i) ≡ false → (r : Found) → Placed f p (suc i) n r → Placed f p i n r
-  placed_later n i e (At j) (h, l, q, m) = (omega arith, l, q, λ k g t. either (eq-or-lt_of_le g) (λ (s : i ≡ k). subst (λ (a : ℕ). p (f a) ≡ false) s e) (λ (s : i < k). m k s t))
-  placed_later n i e Nothing m = λ k g t. either (eq-or-lt_of_le g) (λ (s : i ≡ k). subst (λ (a : ℕ). p (f a) ≡ false) s e) (λ (s : i < k). m k s t)
+  placed_later : (n i : ℕ) → p (f i) ≡ false → (r : Option ℕ) → Placed f p (suc i) n r → Placed f p i n r
+  placed_later n i e (Some j) (h, l, q, m) = (omega arith, l, q, λ k g t. either (eq-or-lt_of_le g) (λ (s : i ≡ k). subst (λ (a : ℕ). p (f a) ≡ false) s e) (λ (s : i < k). m k s t))
+  placed_later n i e None m = λ k g t. either (eq-or-lt_of_le g) (λ (s : i ≡ k). subst (λ (a : ℕ). p (f a) ≡ false) s e) (λ (s : i < k). m k s t)
 
   pub placed : (n i : ℕ) → Placed f p i (i + n) (place p i (map f (range i n)))
   unfolding range place
@@ -98,37 +98,36 @@ module _ {A : Type 0} (f : ℕ → A) (p : A → Bool) where
       (λ e. rw e (placed_later (i + suc n) i e (place p (suc i) (map f (range (suc i) n))) (subst (λ (m : ℕ). Placed f p (suc i) m (place p (suc i) (map f (range (suc i) n)))) (omega arith) (placed n (suc i)))))
 
   -- a place that tells so is the one
-  pub place_first : (n j : ℕ) → j < n → p (f j) ≡ true → ((k : ℕ) → k < j → p (f k) ≡ false) → place p 0 (map f (range 0 n)) ≡ At j
+  pub place_first : (n j : ℕ) → j < n → p (f j) ≡ true → ((k : ℕ) → k < j → p (f k) ≡ false) → place p 0 (map f (range 0 n)) ≡ Some j
   place_first n j h e m = one (place p 0 (map f (range 0 n))) (placed n 0)
     where
-      one : (r : Found) → Placed f p 0 (0 + n) r → r ≡ At j
-      one (At k) (a, b, q, l) = ap At (if (ltb k j) (λ s. clash q (m k (ltb-true k j s))) (λ s. if (ltb j k) (λ t. clash e (l j (omega arith) (ltb-true j k t))) (λ t. omega (arith, ltb-false k j s, ltb-false j k t))))
-      one Nothing l = clash e (l j (omega arith) (omega arith))
+      one : (r : Option ℕ) → Placed f p 0 (0 + n) r → r ≡ Some j
+      one (Some k) (a, b, q, l) = ap Some (if (ltb k j) (λ s. clash q (m k (ltb-true k j s))) (λ s. if (ltb j k) (λ t. clash e (l j (omega arith) (ltb-true j k t))) (λ t. omega (arith, ltb-false k j s, ltb-false j k t))))
+      one None l = clash e (l j (omega arith) (omega arith))
 
-  pub place_nowhere : (n : ℕ) → ((k : ℕ) → k < n → p (f k) ≡ false) → place p 0 (map f (range 0 n)) ≡ Nothing
+  pub place_nowhere : (n : ℕ) → ((k : ℕ) → k < n → p (f k) ≡ false) → place p 0 (map f (range 0 n)) ≡ None
   place_nowhere n m = place_nothing p 0 _ (λ x i. let r = in_map_of f (range 0 n) i in ap p r.2 ∙ m r.0 (let b = in_range_lem 0 n r.1 in omega arith))
 
 -- some element passes just where it has a place
-abbrev pub is_at : Found → Bool
-is_at (At i) = true
-is_at Nothing = false
+abbrev pub is_at : Option ℕ → Bool
+is_at r = is_some r
 
 pub any_place : {A : Type 0} (p : A → Bool) (i : ℕ) (xs : List A) → any p xs ≡ is_at (place p i xs)
 unfolding any place
 any_place p i [] = refl
 any_place p i (x ∷ xs) = if (p x) (λ e. rw e) (λ e. rw e (any_place p (suc i) xs))
 
-pub has_place : {x y : ℕ} (xs : List ℕ) {r : Found} → x ≡ y → r ≡ place (λ z. eqb z x) 0 xs → has y xs ≡ is_at r
+pub has_place : {x y : ℕ} (xs : List ℕ) {r : Option ℕ} → x ≡ y → r ≡ place (λ z. eqb z x) 0 xs → has y xs ≡ is_at r
 has_place {x} {y} xs e h = any_ext (eqb y) (λ z. eqb z x) xs (λ z m. rw (← e) (eqb_swap x z)) ∙ (any_place (λ z. eqb z x) 0 xs ∙ ap is_at (sym h))
 
-pub found_tells : {A : Type 0} (f : ℕ → A) (p : A → Bool) (n : ℕ) {r : Found} {j : ℕ} → r ≡ place p 0 (map f (range 0 n)) → r ≡ At j → (j < n) × (p (f j) ≡ true)
+pub found_tells : {A : Type 0} (f : ℕ → A) (p : A → Bool) (n : ℕ) {r : Option ℕ} {j : ℕ} → r ≡ place p 0 (map f (range 0 n)) → r ≡ Some j → (j < n) × (p (f j) ≡ true)
 found_tells f p n {r} {j} h g =
-    let t : Placed f p 0 (0 + n) (At j) = subst (Placed f p 0 (0 + n)) (sym h ∙ g) (placed f p n 0) in (omega arith, t.2)
+    let t : Placed f p 0 (0 + n) (Some j) = subst (Placed f p 0 (0 + n)) (sym h ∙ g) (placed f p n 0) in (omega arith, t.2)
 
 -- the place, or 0
-abbrev pub place_of : Found → ℕ
-place_of (At i) = i
-place_of Nothing = 0
+abbrev pub place_of : Option ℕ → ℕ
+place_of (Some i) = i
+place_of None = 0
 
 abbrev pub place_in : List ℕ → ℕ → ℕ
 place_in xs x = place_of (place (λ z. eqb z x) 0 xs)
@@ -138,9 +137,9 @@ module _ (f : ℕ → ℕ) (n : ℕ) where
   has_at : (x : ℕ) → has x (map f (range 0 n)) ≡ true → f (place_in (map f (range 0 n)) x) ≡ x
   has_at x h = at (place (λ z. eqb z x) 0 (map f (range 0 n))) refl (sym (has_place (map f (range 0 n)) refl refl) ∙ h)
     where
-      at : (r : Found) → place (λ z. eqb z x) 0 (map f (range 0 n)) ≡ r → is_at r ≡ true → f (place_of r) ≡ x
-      at (At k) e t = eqb-true (f k) x (found_tells f (λ z. eqb z x) n refl e).1
-      at Nothing e t = clash t refl
+      at : (r : Option ℕ) → place (λ z. eqb z x) 0 (map f (range 0 n)) ≡ r → is_at r ≡ true → f (place_of r) ≡ x
+      at (Some k) e t = eqb-true (f k) x (found_tells f (λ z. eqb z x) n refl e).1
+      at None e t = clash t refl
 
   pub same_place : (x y : ℕ) → has x (map f (range 0 n)) ≡ true → has y (map f (range 0 n)) ≡ true
       → eqb x y ≡ eqb (place_in (map f (range 0 n)) x) (place_in (map f (range 0 n)) y)
@@ -149,10 +148,10 @@ module _ (f : ℕ → ℕ) (n : ℕ) where
       (λ t. eq-eqb x y (sym (has_at x h) ∙ (ap f (eqb-true _ _ t) ∙ has_at y k)))
 
 -- no element has the key k
-pub any_nowhere : {A : Type 0} (f : ℕ → A) (key : A → ℕ) (k n : ℕ) (q : A → Bool) {r : Found}
-    → r ≡ place (λ y. eqb y k) 0 (map (λ i. key (f i)) (range 0 n)) → r ≡ Nothing → any (λ x. eqb (key x) k && q x) (map f (range 0 n)) ≡ false
+pub any_nowhere : {A : Type 0} (f : ℕ → A) (key : A → ℕ) (k n : ℕ) (q : A → Bool) {r : Option ℕ}
+    → r ≡ place (λ y. eqb y k) 0 (map (λ i. key (f i)) (range 0 n)) → r ≡ None → any (λ x. eqb (key x) k && q x) (map f (range 0 n)) ≡ false
 any_nowhere f key k n q h g =
-    let t : Placed (λ i. key (f i)) (λ y. eqb y k) 0 (0 + n) Nothing = subst (Placed (λ i. key (f i)) (λ y. eqb y k) 0 (0 + n)) (sym h ∙ g) (placed (λ i. key (f i)) (λ y. eqb y k) n 0) in
+    let t : Placed (λ i. key (f i)) (λ y. eqb y k) 0 (0 + n) None = subst (Placed (λ i. key (f i)) (λ y. eqb y k) 0 (0 + n)) (sym h ∙ g) (placed (λ i. key (f i)) (λ y. eqb y k) n 0) in
     any_none _ _ (λ x m. let r = in_map_of f (range 0 n) m in let b = in_range_lem 0 n r.1 in ap (λ y. eqb (key y) k && q y) r.2 ∙ rw (t r.0 (omega arith) (omega arith)) refl)
 
 -- the last of n

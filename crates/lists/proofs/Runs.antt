@@ -6,15 +6,16 @@ use native.Mathlib.Omega.{arith}
 use native.Mathlib.Numerals.{add-one}
 use native.Mathlib.Nat.{add-zero, add-suc, zero-add, suc-add, mul-le-mul_left, mul-le-mul_right}
 use lib.ListN.{length, take, drop, set, replicate, length-append, length-take, length-drop, length-replicate, take-append-drop}
-use lib.Seq.{take-suc-set, drop-set-lt, take_at, drop_at, drop-drop, length-take-le, take-add, sets, sets-eq}
-use Rattle.lists.specs.Runs.{overwrite, replace}
+use lib.Seq.{take-suc-set, drop-set-lt, take_at, drop_at, drop-drop, length-take-le, take-add, sets, sets-eq, paste}
+use borrow.Rule.Slice.PartMut.{put_mid}
+use Rattle.lists.specs.Runs.{overwrite, replace, replace_by}
 
-pub overwrite_none : (w : List ℕ) (k : ℕ) → overwrite w k [] ≡ w
+pub overwrite_none : {A : Type 0} (w : List A) (k : ℕ) → overwrite w k [] ≡ w
 unfolding overwrite
 overwrite_none w k = rw add-zero (take-append-drop k w)
 
 -- the first word of what is to be written is written
-pub overwrite_set : (w : List ℕ) (k v : ℕ) (rest : List ℕ) → k < length w → overwrite w k (v ∷ rest) ≡ overwrite (set w k v) (k + 1) rest
+pub overwrite_set : {A : Type 0} (w : List A) (k : ℕ) (v : A) (rest : List A) → k < length w → overwrite w k (v ∷ rest) ≡ overwrite (set w k v) (k + 1) rest
 unfolding overwrite
 overwrite_set w k v rest h = rw (add-one, take-suc-set w k v h, drop-set-lt (suc k + length rest) w k v (omega arith), append_assoc, suc-add, add-suc) refl
 
@@ -22,16 +23,16 @@ pub overwrite_length : (w : List ℕ) (k : ℕ) (new : List ℕ) → k + length 
 unfolding overwrite
 overwrite_length w k new h = simp (length-append, length-take, length-drop) (omega arith)
 
-pub overwrite_front : (w : List ℕ) (k : ℕ) (a : List ℕ) → k ≤ length w → take (k + length a) (overwrite w k a) ≡ take k w ++ a
+pub overwrite_front : {A : Type 0} (w : List A) (k : ℕ) (a : List A) → k ≤ length w → take (k + length a) (overwrite w k a) ≡ take k w ++ a
 unfolding overwrite
 overwrite_front w k a h = rw (← append_assoc) (take_at (take k w ++ a) _ (k + length a) (simp (length-append, length-take) (omega arith)))
 
-pub overwrite_back : (w : List ℕ) (k : ℕ) (a : List ℕ) → k ≤ length w → drop (k + length a) (overwrite w k a) ≡ drop (k + length a) w
+pub overwrite_back : {A : Type 0} (w : List A) (k : ℕ) (a : List A) → k ≤ length w → drop (k + length a) (overwrite w k a) ≡ drop (k + length a) w
 unfolding overwrite
 overwrite_back w k a h = rw (← append_assoc) (drop_at (take k w ++ a) _ (k + length a) (simp (length-append, length-take) (omega arith)))
 
 -- past what was written a run is as it was
-pub overwrite_past : (w : List ℕ) (k : ℕ) (a : List ℕ) (m : ℕ) → k ≤ length w → k + length a ≤ m → drop m (overwrite w k a) ≡ drop m w
+pub overwrite_past : {A : Type 0} (w : List A) (k : ℕ) (a : List A) (m : ℕ) → k ≤ length w → k + length a ≤ m → drop m (overwrite w k a) ≡ drop m w
 overwrite_past w k a m h g =
     ap (λ (j : ℕ). drop j (overwrite w k a)) m_is ∙ sym (drop-drop (m - (k + length a)) (k + length a) (overwrite w k a))
     ∙ ap (drop (m - (k + length a))) (overwrite_back w k a h)
@@ -65,9 +66,24 @@ pub overwrite_sets : (w : List ℕ) (k : ℕ) (new : List ℕ) → k + length ne
 unfolding overwrite
 overwrite_sets w k new h = sets-eq new w k h ∙ append_assoc (take k w) new _
 
+-- by the library: n places copied from `at` on, and the places from a up to e filled
+pub overwrite_copied : {A : Type 0} (w : List A) (to at n : ℕ) {v : List A} → at + n ≤ length w → v ≡ paste w to (drop at w) (at + n - at) → v ≡ overwrite w to (take n (drop at w))
+unfolding overwrite
+overwrite_copied w to at n h e =
+    let count : at + n - at ≡ n = omega arith in
+    let long : length (take n (drop at w)) ≡ n = length-take-le n (drop at w) (rw length-drop (omega arith)) in
+    e ∙ rw (count, append_assoc, long) refl
+
+pub overwrite_filled : {A : Type 0} (w : List A) (a e : ℕ) (x : A) {u : List A} → a ≤ e → e ≤ length w
+    → u ≡ replicate (length (take (e - a) (drop a w))) x → put_mid a (e - a) w u ≡ overwrite w a (replicate (e - a) x)
+unfolding overwrite
+overwrite_filled w a e x h g f =
+    let long : length (take (e - a) (drop a w)) ≡ e - a = length-take-le (e - a) (drop a w) (rw length-drop (omega arith)) in
+    rw (f, long, length-replicate, ← drop-drop) refl
+
 -- as many words as were used
 pub replace_same : (old : List ℕ) (used : ℕ) (new : List ℕ) → length new ≡ used → replace old used new ≡ overwrite old 0 new
-unfolding replace overwrite
+unfolding replace_by overwrite
 replace_same old used new h = rw (none, end, zero-add) refl
   where
     none : used - length new ≡ 0
@@ -78,7 +94,7 @@ replace_same old used new h = rw (none, end, zero-add) refl
 
 -- words past those that were used
 pub replace_more : (w : List ℕ) (used : ℕ) (new : List ℕ) → used ≤ length w → replace w used (take used w ++ new) ≡ overwrite w used new
-unfolding replace overwrite
+unfolding replace_by overwrite
 replace_more w used new h = rw (length-append, length-take-le used w h, none, end) (simp append_assoc)
   where
     none : used - (used + length new) ≡ 0
@@ -88,9 +104,10 @@ replace_more w used new h = rw (length-append, length-take-le used w h, none, en
     end = omega arith
 
 -- the first k words stay, and the others are freed
-pub replace_less : (w : List ℕ) (used k : ℕ) → k ≤ used → used ≤ length w → replace w used (take k w) ≡ overwrite w k (replicate (used - k) 0)
-unfolding replace overwrite
-replace_less w used k g h = rw (length-take-le k w (omega arith), length-replicate, past, end) refl
+pub replace_less : {A : Type 0} (zero : A) (w : List A) (used k : ℕ) → k ≤ used → used ≤ length w
+    → replace_by zero w used (take k w) ≡ overwrite w k (replicate (used - k) zero)
+unfolding replace_by overwrite
+replace_less zero w used k g h = rw (length-take-le k w (omega arith), length-replicate, past, end) refl
   where
     past : max used k ≡ used
     past = omega arith
@@ -103,13 +120,14 @@ pub replace_kept : (w : List ℕ) (used : ℕ) → used ≤ length w → replace
 replace_kept w used h = rw append-nil at (replace_more w used [] h ∙ overwrite_none w used)
 
 -- what is written below the used words does not count
-pub replace_past : (w : List ℕ) (k : ℕ) (a new : List ℕ) (used : ℕ) → k ≤ length w → k + length a ≤ used → replace (overwrite w k a) used new ≡ replace w used new
-unfolding replace
-replace_past w k a new used h g = rw (overwrite_past w k a (max used (length new)) h (omega arith)) refl
+pub replace_past : {A : Type 0} (zero : A) (w : List A) (k : ℕ) (a new : List A) (used : ℕ) → k ≤ length w → k + length a ≤ used
+    → replace_by zero (overwrite w k a) used new ≡ replace_by zero w used new
+unfolding replace_by
+replace_past zero w k a new used h g = rw (overwrite_past w k a (max used (length new)) h (omega arith)) refl
 
 -- a run keeps its length where the new words have room
 pub replace_length : (old : List ℕ) (used : ℕ) (new : List ℕ) → used ≤ length old → length new ≤ length old → length (replace old used new) ≡ length old
-unfolding replace
+unfolding replace_by
 replace_length old used new h g = simp (length-append, length-replicate, length-drop) (omega arith)
 
 -- a record before the n-th lies in a run that holds n records

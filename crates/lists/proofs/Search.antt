@@ -1,4 +1,5 @@
 -- Words that ascend: how many are below a number, and where a number stands among them.
+use Rattle.std.specs.Prelude.{Option, Some}
 use Prim.Native.Nat.{ℕ, ◌+◌, ◌≤◌, ◌<◌}
 use mathlib.Core.Path.{◌≡◌, refl, sym, ap, ◌∙◌}
 use mathlib.Core.Logic.{⊎_elim}
@@ -9,8 +10,6 @@ use native.Mathlib.Nat.{eq-or-lt_of_le, zero-add}
 use borrow.Author.Tests.{lt-ltb, le-ltb, le-leb, ltb-true, ltb-false, leb-true, leb-false, eqb-true}
 use lib.Dec.{leb, ltb, eqb}
 use lib.ListN.{length}
-use Rattle.lists.specs.declared.Found.{Found}
-use Rattle.lists.specs.declared.Found.TheVariants.{At}
 use Rattle.lists.specs.Lists.{range, any, chained, before, count, place}
 use Rattle.lists.specs.Runs.{from, field, fields, pair_at, pairs}
 use Rattle.lists.proofs.Tests.{if, either, or_cases, both, and, same_test}
@@ -119,7 +118,7 @@ keyed_one f key n e k l s =
 
 -- a test of the one record whose key is k, where keys ascend
 module _ {A : Type 0} (f : ℕ → A) (key : A → ℕ) (k n : ℕ) (q : A → Bool) (e : chained ltb (map (λ i. key (f i)) (range 0 n)) ≡ true) where
-  pub any_found : {r : Found} {j : ℕ} → r ≡ place (λ y. eqb y k) 0 (map (λ i. key (f i)) (range 0 n)) → r ≡ At j
+  pub any_found : {r : Option ℕ} {j : ℕ} → r ≡ place (λ y. eqb y k) 0 (map (λ i. key (f i)) (range 0 n)) → r ≡ Some j
       → any (λ x. eqb (key x) k && q x) (map f (range 0 n)) ≡ q (f j)
   any_found {j = j} h g =
       let t = found_tells (λ i. key (f i)) (λ y. eqb y k) n h g in

@@ -1,15 +1,15 @@
 -- Two ascending lists, passed through together: whether the second holds every element of the first.
 use Prim.Native.Nat.{ℕ, zero, suc, ◌+◌, ◌≤◌, ◌<◌}
-use mathlib.Core.Path.{◌≡◌, refl, subst, ap, ◌∙◌}
+use mathlib.Core.Path.{◌≡◌, refl, sym, subst, ap, ◌∙◌}
 use mathlib.Core.Bool.{Bool, true, false}
 use mathlib.Core.List.{List, [], ◌∷◌}
 use native.Mathlib.Omega.{arith}
-use borrow.Author.Tests.{eq-eqb, ne_eqb}
-use lib.Dec.{ltb}
+use borrow.Author.Tests.{eq-eqb, ne_eqb, eqb-true, eqb-false}
+use lib.Dec.{eqb, ltb}
 use lib.ListN.{length, get_or, drop, drop_of_length-le}
 use Rattle.lists.specs.Lists.{all, any, chained, has}
 use Rattle.lists.proofs.Members.{In, here, next, Pairwise, none, more}
-use Rattle.lists.proofs.Tests.{reflects_ltb}
+use Rattle.lists.proofs.Tests.{if, reflects_ltb}
 use Rattle.lists.proofs.Orders.{reflects_chained}
 use Rattle.lists.proofs.Selections.{any_none, all_ext}
 use Rattle.lists.proofs.Windows.{rest_step}
@@ -74,3 +74,10 @@ module _ (a b : List ℕ) where
               large : (x : ℕ) → In x (get_or a i 0 ∷ drop (i + 1) a) → get_or b j 0 < x
               large x (here e) = omega arith
               large x (next n) = omega (arith, first_least a i ea l x n)
+
+  -- nothing is left of the second: all of the first was found just where nothing is left of it
+  pub inside_over : (i j : ℕ) → i ≤ length a → length b ≤ j → eqb i (length a) ≡ inside i j
+  inside_over i j l h =
+      if (eqb i (length a))
+      (λ t. t ∙ sym (inside_end i j (omega (arith, eqb-true i (length a) t))))
+      (λ t. t ∙ sym (inside_past i j (let n : i ≡ length a → ⊥ = eqb-false i (length a) t in omega arith) h))

@@ -1,16 +1,15 @@
 -- Loops that write: elements' words into an area one after another, words moved down a run, records behind those in use. What each comes to from the present turn on.
-use Prim.Native.Nat.{ℕ, suc, ◌+◌, ◌*◌, ◌-◌, ◌≤◌, ◌<◌}
+use Prim.Native.Nat.{ℕ, suc, ◌+◌, ◌*◌, ◌≤◌, ◌<◌}
 use mathlib.Core.Path.{◌≡◌, refl, sym, ap, ap₂, ◌∙◌}
 use mathlib.Core.Bool.{Bool, true, false}
 use mathlib.Core.List.{List, [], ◌∷◌, ◌++◌, map, flat_map}
 use native.Mathlib.Omega.{arith}
 use native.Mathlib.Nat.{add-zero, zero-add, add_assoc, mul-suc}
 use native.Mathlib.Numerals.{add-one}
-use lib.ListN.{length, get_or, take, drop, set, length-append}
-use lib.Seq.{drop-cons, drop-set-lt}
+use lib.ListN.{length, length-append}
 use Rattle.lists.specs.Lists.{range, filter}
 use Rattle.lists.specs.Runs.{from, overwrite}
-use Rattle.lists.proofs.Runs.{overwrite_none, overwrite_set, overwrite_over}
+use Rattle.lists.proofs.Runs.{overwrite_none, overwrite_over}
 use Rattle.lists.proofs.Loops.{from_step, from_all, filter_pass, filter_fail, filter_end}
 
 -- words of one size for each element
@@ -75,31 +74,6 @@ module _ {A : Type 0} (f : ℕ → A) (p : A → Bool) (n : ℕ) (g : A → List
   pub laid_done : (area v : List ℕ) (k i : ℕ) → laid area 0 0 ≡ laid v k i → n ≤ i
       → (k ≡ length (flat_map g (filter p (map f (range 0 n))))) × (v ≡ overwrite area 0 (flat_map g (filter p (map f (range 0 n)))))
   laid_done area v k i s h = let e = sym (laid_start area ∙ (s ∙ laid_end v k i h)) in (ap (λ x. x.1) e, ap (λ x. x.0) e)
-
--- a loop that moves n words down from `at` to `to`: what the run comes to from the turn b on
-module _ (to at n : ℕ) where
-  pub moved : List ℕ → ℕ → List ℕ
-  moved w b = overwrite w (to + b) (take (n - b) (drop (at + b) w))
-
-  pub moved_start : (w : List ℕ) → overwrite w to (take n (drop at w)) ≡ moved w 0
-  unfolding moved
-  moved_start w = rw (add-zero, add-zero, whole) refl
-    where
-      whole : n - 0 ≡ n
-      whole = omega arith
-
-  pub moved_next : (w : List ℕ) (b : ℕ) → to ≤ at → b < n → at + n ≤ length w → moved w b ≡ moved (set w (to + b) (get_or w (at + b) 0)) (b + 1)
-  unfolding moved
-  moved_next w b g h s =
-      let v = get_or w (at + b) 0 in
-      let left : n - b ≡ suc (n - (b + 1)) = omega arith in
-      let here : at + (b + 1) ≡ suc (at + b) = omega arith in
-      let there : to + (b + 1) ≡ to + b + 1 = omega arith in
-      rw (left, drop-cons w (at + b) 0 (omega arith), overwrite_set w (to + b) v (take (n - (b + 1)) (drop (suc (at + b)) w)) (omega arith), there, here, drop-set-lt (suc (at + b)) w (to + b) v (omega arith)) refl
-
-  pub moved_end : (w : List ℕ) (b : ℕ) → n ≤ b → moved w b ≡ w
-  unfolding moved
-  moved_end w b h = let none : n - b ≡ 0 = omega arith in rw none (overwrite_none w (to + b))
 
 -- records laid one after another behind the k records of a run: the run and the records in it once xs are laid
 module _ {A : Type 0} (words : A → List ℕ) (size : ℕ) where

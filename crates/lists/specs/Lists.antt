@@ -1,7 +1,5 @@
 -- Tests, selections and orders over lists.
-use Rattle.std.specs.Prelude.{ℕ, zero, suc, ◌+◌, max, List, [], ◌∷◌, Bool, true, false, cond, ◌&&◌, ◌||◌, leb, ltb, eqb}
-use Rattle.lists.specs.declared.Found.{Found}
-use Rattle.lists.specs.declared.Found.TheVariants.{At, Nothing}
+use Rattle.std.specs.Prelude.{ℕ, zero, suc, ◌+◌, max, List, [], ◌∷◌, Bool, true, false, cond, ◌&&◌, ◌||◌, leb, ltb, eqb, None, Option, Some}
 
 -- n numbers from i on
 unfoldable pub range : ℕ → ℕ → List ℕ
@@ -51,9 +49,9 @@ find p d [] = d
 find p d (x ∷ xs) = cond (p x) x (find p d xs)
 
 -- the place of the first element that passes, in a list whose first place is i
-unfoldable pub place : {A : Type 0} → (A → Bool) → ℕ → List A → Found
-place p i [] = Nothing
-place p i (x ∷ xs) = cond (p x) (At i) (place p (suc i) xs)
+unfoldable pub place : {A : Type 0} → (A → Bool) → ℕ → List A → Option ℕ
+place p i [] = None
+place p i (x ∷ xs) = cond (p x) (Some i) (place p (suc i) xs)
 
 -- the last element, or d
 unfoldable pub last : {A : Type 0} → A → List A → A

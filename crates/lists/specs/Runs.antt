@@ -9,12 +9,16 @@ abbrev pub from : {A : Type 0} → (ℕ → A) → ℕ → ℕ → List A
 from f i n = map f (range i (n - i))
 
 -- `new` written over `old` from the place k on
-unfoldable pub overwrite : List ℕ → ℕ → List ℕ → List ℕ
+unfoldable pub overwrite : {A : Type 0} → List A → ℕ → List A → List A
 overwrite old k new = take k old ++ (new ++ drop (k + length new) old)
 
--- a run whose first `used` words were in use and now are `new`: places that this frees are 0, all others as they were
-unfoldable pub replace : List ℕ → ℕ → List ℕ → List ℕ
-replace old used new = new ++ (replicate (used - length new) 0 ++ drop (max used (length new)) old)
+-- a run whose first `used` places were in use and now are `new`: places that this frees are `zero`, all others as they were
+unfoldable pub replace_by : {A : Type 0} → A → List A → ℕ → List A → List A
+replace_by zero old used new = new ++ (replicate (used - length new) zero ++ drop (max used (length new)) old)
+
+-- of words and bytes
+abbrev pub replace : List ℕ → ℕ → List ℕ → List ℕ
+replace old used new = replace_by 0 old used new
 
 -- how a record lies in `size` words: `read` takes it from the words of a run that begin at a place
 pub record Layout (A : Type 0) : Type 0 where

@@ -1,4 +1,5 @@
 pub mod Order
+pub mod DeleteFiles
 pub mod Positions
 pub mod Times
 pub mod Versions

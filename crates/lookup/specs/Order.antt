@@ -1,6 +1,5 @@
 -- What lookups rely on, named for what it gives. By what a table is sorted is known to this crate alone: others pass these on.
-use Rattle.std.specs.Prelude.{ℕ, ◌*◌, ◌≤◌, ◌<◌, ◌≡◌, true, List, leb, ltb, eqb, length}
-use Rattle.lists.specs.declared.Found.{Found}
+use Rattle.std.specs.Prelude.{ℕ, ◌*◌, ◌≤◌, ◌<◌, ◌≡◌, true, List, leb, ltb, eqb, length, Option}
 use Rattle.lists.specs.Lists.{chained, place}
 use Rattle.lists.specs.Runs.{fields}
 use Rattle.layout.specs.Fields.{snapshot_size, snapshot_id_word, snapshot_time_word, schema_size, schema_id_word, table_size, table_id_word, column_size, column_table_word, data_file_size, data_file_id_word, delete_file_size, delete_file_id_word, statistics_size, statistics_data_file_word}
@@ -42,5 +41,5 @@ abbrev pub StatisticsByFile : List ℕ → ℕ → Type 0
 StatisticsByFile run n = Grouped statistics_size statistics_data_file_word run n
 
 -- the place of the first record whose word `word` is k
-abbrev pub place_of : ℕ → ℕ → List ℕ → ℕ → ℕ → Found
+abbrev pub place_of : ℕ → ℕ → List ℕ → ℕ → ℕ → Option ℕ
 place_of size word run n k = place (λ y. eqb y k) 0 (fields size word run n)

@@ -2,7 +2,7 @@
 use Rattle.std.specs.Prelude.{ℕ, ◌+◌, ◌*◌, ◌≤◌, ◌≡◌, List, map, length, take}
 use Rattle.lists.specs.Lists.{range}
 use Rattle.layout.specs.Fields.{delete_file_size}
-use Rattle.layout.specs.Words.{delete_count, positions_before}
+use Rattle.layout.specs.Words.{positions_before, delete_count}
 
 -- n delete files that together have at most k positions
 pub record PositionsWithin (run : List ℕ) (n k : ℕ) : Type 0 where

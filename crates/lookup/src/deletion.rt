@@ -7,7 +7,6 @@ ghost use Rattle.ducklake.specs.Liveness.{live};
 use crate::life::{is_live, life_at};
 use layout::number::{FileId, SnapshotId};
 use layout::record::DeleteFileRecord;
-use lists::Found;
 use records::delete_file::delete_file_data_file;
 
 // The place of the delete file that a data file has at s: of the first one, and sound tables have no other.
@@ -16,13 +15,12 @@ pub fn find_live_delete_file(
     n: usize,
     data_file: FileId,
     s: SnapshotId,
-) -> Found
+) -> Option<usize>
     requires { delete_file_size * n ≤ length delete_files.now }
     ensures { (positions : List ℕ)
         → result ≡ place (λ d. eqb d.body.data_file data_file.0 && live s.0 d) 0 (delete_files_in delete_files.now positions n) }
 {
-    let mut i: usize = 0;
-    while i < n {
+    for i in 0..n {
         let file = delete_file_data_file(delete_files, i);
         let l = life_at(
             delete_files,
@@ -31,10 +29,9 @@ pub fn find_live_delete_file(
             i,
         );
         let live = is_live(l, s);
-        if (file.0 == data_file.0) & live {
-            return Found::At(i);
+        if (file == data_file) & live {
+            return Some(i);
         }
-        i += 1;
     }
-    Found::Nothing
+    None
 }

@@ -1,13 +1,13 @@
 ghost use Rattle.std.specs.Prelude.{◌≡◌, ◌+◌, ◌*◌, ◌≤◌, ◌<◌, length};
 ghost use Rattle.ducklake.specs.Liveness.{live};
-ghost use Rattle.ducklake.specs.Soundness.{overlap, contains, same_life};
+ghost use Rattle.ducklake.specs.Soundness.{overlap, contains};
 ghost use Rattle.lookup.specs.Versions.{life_at, with_life};
 
-use layout::number::{ABSENT, SnapshotId};
+use layout::number::SnapshotId;
 use runs::fields::field_at;
 
 // From begin up to, and without, end; ABSENT is greatest.
-#[derive(Clone, Copy)]
+#[derive(Clone, Copy, PartialEq, Eq)]
 pub struct Life {
     pub begin: SnapshotId,
     pub end: SnapshotId,
@@ -27,28 +27,25 @@ pub fn life_at(w: &[u64], size: usize, at: usize, i: usize) -> Life
 }
 
 // Whether a record of that life is live at s.
+#[tactic(auto, unfolding(ducklake::specs::Liveness::live))]
 pub fn is_live(l: Life, s: SnapshotId) -> bool
     ensures { result ≡ live s.0 (with_life l) }
 {
-    (l.begin.0 <= s.0) & ((l.end.0 == ABSENT) | (s.0 < l.end.0))
+    (l.begin <= s) & ((l.end == SnapshotId::ABSENT) | (s < l.end))
 }
 
 // Whether both are live at some number.
+#[tactic(auto, unfolding(ducklake::specs::Soundness::overlap))]
 pub fn lives_overlap(a: Life, b: Life) -> bool
     ensures { result ≡ overlap (with_life a) (with_life b) }
 {
-    (a.begin.0 < b.end.0) & (b.begin.0 < a.end.0)
+    (a.begin < b.end) & (b.begin < a.end)
 }
 
 // Whether the second lies within the first.
+#[tactic(auto, unfolding(ducklake::specs::Soundness::contains))]
 pub fn life_contains(a: Life, b: Life) -> bool
     ensures { result ≡ contains (with_life a) (with_life b) }
 {
-    (a.begin.0 <= b.begin.0) & (b.end.0 <= a.end.0)
-}
-
-pub fn same_life(a: Life, b: Life) -> bool
-    ensures { result ≡ same_life (with_life a) (with_life b) }
-{
-    (a.begin.0 == b.begin.0) & (a.end.0 == b.end.0)
+    (a.begin <= b.begin) & (b.end <= a.end)
 }

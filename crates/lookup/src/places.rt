@@ -2,16 +2,8 @@
 ghost use Rattle.std.specs.Prelude.{◌*◌, ◌≤◌, ◌<◌, length};
 ghost use Rattle.lookup.specs.Order.{ById};
 
-use lists::Found;
-use runs::fields::{field_at, find_near};
-use runs::hints::{fill_hints, hint, place_at, put_place};
-
-fn place_or(found: Found, other: usize) -> usize {
-    match found {
-        Found::At(i) => i,
-        Found::Nothing => other,
-    }
-}
+use runs::fields::Fields;
+use runs::hints::{fill_hints, place_at, put_place};
 
 // For the word `word` of each of m records, the place of the record that has it as its word `id_word`, of n records. The hints are scratch.
 pub fn locate(
@@ -28,23 +20,30 @@ pub fn locate(
 )
     requires { (size * m ≤ length w.now) × (word < size) × ById to_size id_word to.now n }
 {
-    let scale = fill_hints(to, to_size, id_word, n, hints);
-    let mut i: usize = 0;
-    while i < m {
-        let x = field_at(w, size, word, i);
-        let near = hint(scale, hints, x);
-        let found = find_near(to, to_size, id_word, n, x, near);
-        let j = place_or(found, near);
-        put_place(places, i, j);
-        i += 1;
+    let sought = Fields {
+        words: w,
+        size,
+        at: word,
+        n: m,
+    };
+    let ids = Fields {
+        words: to,
+        size: to_size,
+        at: id_word,
+        n,
+    };
+    let scale = fill_hints(ids, hints);
+    for i in 0..m {
+        let x = sought.get(i);
+        let near = scale.hint(hints, x);
+        let found = ids.find_near(x, near);
+        put_place(places, i, found.unwrap_or(near));
     }
 }
 
 // For each place the first of the m records that lead there, where those of one place stand together.
 pub fn block_starts(places: &[u16], m: usize, starts: &mut [u16]) {
-    let mut i = m;
-    while 0 < i {
-        i -= 1;
+    for i in (0..m).rev() {
         let j = place_at(places, i);
         put_place(starts, j, i);
     }

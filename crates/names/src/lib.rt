@@ -24,7 +24,10 @@ const HALF_COUNT: u64 = BYTE_COUNT * TRIPLE_COUNT;
 pub fn is_name_byte(b: u8) -> bool
     ensures { result ≡ is_name_byte b }
 {
-    ((48 <= b) & (b <= 57)) | ((65 <= b) & (b <= 90)) | (b == 95) | ((97 <= b) & (b <= 122))
+    ((b'0' <= b) & (b <= b'9'))
+        | ((b'A' <= b) & (b <= b'Z'))
+        | (b == b'_')
+        | ((b'a' <= b) & (b <= b'z'))
 }
 
 // Whether the place i holds a name: 1 to 32 name bytes, then zero bytes. Each byte is zero, or a name byte behind one that is not zero; no byte ends
@@ -36,13 +39,11 @@ pub fn is_name(names: &[u8], i: usize) -> bool
     let a = NAME_SIZE * i;
     let mut before = names[a];
     let mut ok = before != 0;
-    let mut k: usize = 0;
-    while k < NAME_SIZE {
+    for k in 0..NAME_SIZE {
         let b = names[a + k];
         let named = is_name_byte(b);
         ok = ok & ((named & (before != 0)) | (b == 0));
         before = b;
-        k += 1;
     }
     ok
 }
@@ -86,32 +87,18 @@ pub fn is_name_argument(name: &[u8]) -> bool
     if NAME_SIZE < n {
         return false;
     }
-    let mut k: usize = 0;
-    while k < n {
-        let ok = is_name_byte(name[k]);
-        if !ok {
-            return false;
-        }
-        k += 1;
-    }
-    true
+    name.iter().all(|b| is_name_byte(*b))
 }
 
 // Whether two places hold the same bytes.
+// Stays: this is `==` of the two names' slices.
 pub fn same_name(a: &[u8], i: usize, b: &[u8], j: usize) -> bool
     requires { (name_size * i + name_size ≤ length a.now) × (name_size * j + name_size ≤ length b.now) }
     ensures { result ≡ same_name (name_at a.now i) (name_at b.now j) }
 {
     let x = NAME_SIZE * i;
     let y = NAME_SIZE * j;
-    let mut k: usize = 0;
-    while k < NAME_SIZE {
-        if a[x + k] != b[y + k] {
-            return false;
-        }
-        k += 1;
-    }
-    true
+    a[x..x + NAME_SIZE] == b[y..y + NAME_SIZE]
 }
 
 // The byte k of a name that zero bytes follow.
@@ -130,13 +117,11 @@ fn holds_name(names: &[u8], i: usize, name: &[u8]) -> bool
     ensures { result ≡ same_name (name_at names.now i) (padded name.now) }
 {
     let a = NAME_SIZE * i;
-    let mut k: usize = 0;
-    while k < NAME_SIZE {
+    for k in 0..NAME_SIZE {
         let b = padded_byte(name, k);
         if names[a + k] != b {
             return false;
         }
-        k += 1;
     }
     true
 }
@@ -158,9 +143,7 @@ pub fn write_name(names: &mut [u8], i: usize, name: &[u8])
     ensures { names.new ≡ overwrite names.old (name_size * i) (padded name.now) }
 {
     let a = NAME_SIZE * i;
-    let mut k: usize = 0;
-    while k < NAME_SIZE {
+    for k in 0..NAME_SIZE {
         names[a + k] = padded_byte(name, k);
-        k += 1;
     }
 }

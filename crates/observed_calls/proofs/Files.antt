@@ -1,4 +1,5 @@
 -- The check of the tables, Fresh, and the part that the lookup hands back: from each one's own statement.
+use Rattle.std.specs.Prelude.{Ok}
 use Prim.Native.Nat.{ℕ}
 use mathlib.Core.Path.{◌≡◌, refl, sym, ap, ◌∙◌}
 use mathlib.Core.Bool.{true}
@@ -72,7 +73,7 @@ module _ (w : Words) (c : Counts) (k : ℕ) (a b part : Bor (List ℕ)) (e : w.d
       at (in_delete_files i) q m = absurd (z q)
       at nowhere q m = m
 
-  over_itself : (xs : List ℕ) → Answered xs xs (record { number = accepted; length = length xs }) xs
+  over_itself : (xs : List ℕ) → Answered xs xs (Ok (length xs)) xs
   unfolding overwrite
   over_itself xs =
       let h : leb (length xs) (length xs) ≡ true = le-leb (length xs) (length xs) (omega arith) in
@@ -82,9 +83,9 @@ module _ (w : Words) (c : Counts) (k : ℕ) (a b part : Bor (List ℕ)) (e : w.d
   found-is : Promise (perform_lookup k w c part.now) (record { number = n; place = 0; length = length part.now; counts = c }) w part.now
   found-is =
       if (eqb n 0)
-      (λ h. let z = eqb-true n 0 h in rw z (copy_answered w c k a b part e f l part.now z (over_itself part.now)))
+      (λ h. let z = eqb-true n 0 h in rw z (copy_answered w c k a b e f part.now (rw z at l) (over_itself part.now)))
       (λ h. let z : n ≡ 0 → ⊥ = λ q. clash (eq-eqb n 0 q) h in
-      rw (ap length (none_there z)) (copy_refused w c k a b part e f l part.now z))
+      rw (ap length (none_there z)) (copy_refused w c k part.now l.number z))
 
 pub find_file_enters : {M : Type 1} → Ensuring {M = M} find_file_call.ended (λ 𝓤 𝓛. find_file_call.clauses 𝓛) find_file_symbol.code find_file_symbol.name FindFileEnters
 find_file_enters {M} =

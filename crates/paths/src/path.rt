@@ -34,11 +34,9 @@ fn write_hex(text: &mut [u8], at: usize, n: usize, number: u64) -> usize
     requires { at + n ≤ length text.old }
     ensures { Written text.old at (hex n number) text.new result }
 {
-    let mut left = n;
     let mut rest = number;
-    while 0 < left {
-        left -= 1;
-        text[at + left] = hex_digit((rest % 16) as u8);
+    for i in (0..n).rev() {
+        text[at + i] = hex_digit((rest % 16) as u8);
         rest /= 16;
     }
     at + n

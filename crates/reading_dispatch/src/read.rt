@@ -1,11 +1,11 @@
 ghost use Rattle.std.specs.Prelude.{◌≡◌, ◌+◌, ◌≤◌, length};
-ghost use Rattle.layout.specs.Lent.{lent_now};
-ghost use Rattle.ducklake.specs.Calls.{PromisedReading};
+ghost use Rattle.layout.specs.Lent.{words_lent};
+ghost use Rattle.ducklake.specs.Calls.{Promise};
 ghost use Rattle.ducklake.specs.Observed.{perform_request};
 ghost use Rattle.refusals.specs.Checked.{checked_of};
 ghost use Rattle.call_lists.specs.Calls.{question_of};
 
-use call_lists::part::bytes_of;
+use call_lists::part::part_of;
 use call_lists::record::{
     COPIED_FILE, CallRecord, FOUND_SNAPSHOT_BY_TIME, FOUND_TABLE_BY_NAME, LISTED_COLUMNS,
     LISTED_FILES, LISTED_FILTERED_FILES, LISTED_SCHEMAS, LISTED_TABLES,
@@ -13,6 +13,7 @@ use call_lists::record::{
 use column_types::to_signed;
 use file_lookup::copy::copy_file;
 use layout::outcome::{Counts, Outcome};
+use layout::tables::Tables;
 use listings::columns::list_columns;
 use listings::named::find_table_by_name;
 use listings::schemas::list_schemas;
@@ -24,48 +25,52 @@ use scans::files::list_table_files;
 use scans::filtered::list_filtered_files;
 
 // Makes the reading that a record of a list stands for, on checked tables. Of the readings' kinds, what is left is a row list.
-pub fn read<'a>(
+pub fn read(
     checked: Checked,
-    snapshots: &[u64],
-    schemas: &[u64],
-    schema_names: &[u8],
-    tables: &[u64],
-    table_names: &[u8],
-    columns: &[u64],
-    column_names: &[u8],
-    data_files: &'a [u64],
-    delete_files: &'a [u64],
-    positions: &[u64],
-    statistics: &[u64],
-    scheduled: &[u64],
+    lent: Tables,
     counts: Counts,
     names: &[u8],
     call: CallRecord,
     area: &mut [u64],
 ) -> Outcome
-    requires checked_value { checked ≡ checked_of
-        (lent_now snapshots schemas schema_names tables table_names columns column_names data_files delete_files positions statistics scheduled)
-        counts }
+    requires checked_value { checked ≡ checked_of (words_lent lent) counts }
     requires length_in_bounds { call.name.start + call.name.length ≤ length names.now }
-    ensures { PromisedReading (perform_request (question_of names.now call))
-        snapshots schemas schema_names tables table_names columns column_names data_files delete_files positions statistics scheduled
-        counts area result }
+    ensures { Promise (perform_request (question_of names.now call) (words_lent lent.entry) counts area.old)
+        result (words_lent lent.entry) area.new }
 {
     let kind = call.kind;
     let s = call.snapshot;
     let id = call.catalog;
     match kind {
-        LISTED_SCHEMAS => list_schemas(checked, snapshots, schemas, counts, s, area),
-        LISTED_TABLES => list_tables(checked, snapshots, schemas, tables, counts, s, id, area),
-        LISTED_COLUMNS => list_columns(checked, snapshots, tables, columns, counts, s, id, area),
+        LISTED_SCHEMAS => list_schemas(checked, lent.snapshots, lent.schemas, counts, s, area),
+        LISTED_TABLES => list_tables(
+            checked,
+            lent.snapshots,
+            lent.schemas,
+            lent.tables,
+            counts,
+            s,
+            id,
+            area,
+        ),
+        LISTED_COLUMNS => list_columns(
+            checked,
+            lent.snapshots,
+            lent.tables,
+            lent.columns,
+            counts,
+            s,
+            id,
+            area,
+        ),
         FOUND_TABLE_BY_NAME => {
-            let name = bytes_of(names, call.name);
+            let name = part_of(names, call.name);
             find_table_by_name(
                 checked,
-                snapshots,
-                schemas,
-                tables,
-                table_names,
+                lent.snapshots,
+                lent.schemas,
+                lent.tables,
+                lent.table_names,
                 counts,
                 s,
                 id,
@@ -76,11 +81,11 @@ pub fn read<'a>(
         LISTED_FILES => {
             list_table_files(
                 checked,
-                snapshots,
-                tables,
-                data_files,
-                delete_files,
-                statistics,
+                lent.snapshots,
+                lent.tables,
+                lent.data_files,
+                lent.delete_files,
+                lent.statistics,
                 counts,
                 s,
                 id,
@@ -91,12 +96,12 @@ pub fn read<'a>(
             let scalar = to_signed(call.scalar);
             list_filtered_files(
                 checked,
-                snapshots,
-                tables,
-                columns,
-                data_files,
-                delete_files,
-                statistics,
+                lent.snapshots,
+                lent.tables,
+                lent.columns,
+                lent.data_files,
+                lent.delete_files,
+                lent.statistics,
                 counts,
                 s,
                 id,
@@ -106,17 +111,28 @@ pub fn read<'a>(
             )
         }
         FOUND_SNAPSHOT_BY_TIME => find_snapshot_by_time(
-            checked, snapshots, counts, call.time, area,
+            checked,
+            lent.snapshots,
+            counts,
+            call.time,
+            area,
         ),
-        COPIED_FILE => copy_file(checked, data_files, delete_files, counts, call.file, area),
+        COPIED_FILE => copy_file(
+            checked,
+            lent.data_files,
+            lent.delete_files,
+            counts,
+            call.file,
+            area,
+        ),
         _ => {
             list_rows(
                 checked,
-                snapshots,
-                tables,
-                data_files,
-                delete_files,
-                positions,
+                lent.snapshots,
+                lent.tables,
+                lent.data_files,
+                lent.delete_files,
+                lent.positions,
                 counts,
                 s,
                 id,

@@ -1,4 +1,5 @@
 -- An answer of a known length: the area has room for it, or has not.
+use Rattle.std.specs.Prelude.{Ok, Err}
 use Prim.Native.Nat.{ℕ, ◌≤◌, ◌<◌}
 use mathlib.Core.Path.{◌≡◌, refl}
 use mathlib.Core.Bool.{true, false}
@@ -8,21 +9,17 @@ use lib.Dec.{leb}
 use lib.ListN.{length}
 use borrow.Author.Tests.{le-leb, lt-leb}
 use Rattle.lists.specs.Runs.{overwrite}
-use Rattle.ducklake.specs.Refusals.{accepted, short_answer_area}
-use Rattle.readings.specs.declared.answer.Answer.{Answer}
+use Rattle.layout.specs.declared.refusal.Refusal.TheVariants.{ShortAnswerArea}
 use Rattle.readings.specs.Answers.{Answered}
 
-abbrev pub answer : ℕ → ℕ → Answer
-answer number count = record { number = number; length = count }
-
 module _ (words area : List ℕ) {l : ℕ} (e : l ≡ length words) where
-  pub answered_short : length area < l → Answered words area (answer short_answer_area 0) area
+  pub answered_short : length area < l → Answered words area (Err ShortAnswerArea) area
   answered_short h = record { number = rw short refl; count = rw short refl; left = rw short refl }
     where
       short : leb (length words) (length area) ≡ false
       short = lt-leb (length words) (length area) (omega (arith, h, e))
 
-  pub answered_whole : {area' : List ℕ} → l ≤ length area → area' ≡ overwrite area 0 words → Answered words area (answer accepted l) area'
+  pub answered_whole : {area' : List ℕ} → l ≤ length area → area' ≡ overwrite area 0 words → Answered words area (Ok l) area'
   answered_whole h q = record { number = rw fits refl; count = rw fits e; left = rw fits q }
     where
       fits : leb (length words) (length area) ≡ true

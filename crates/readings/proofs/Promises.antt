@@ -1,4 +1,5 @@
 -- The promise of what refuses or gives an answer, a reading or the copy of a file: from its number but for 3, and what it leaves then.
+use Rattle.std.specs.Prelude.{Result as Given}
 use Prim.Native.Nat.{ℕ}
 use mathlib.Core.Path.{◌≡◌, refl, sym, ◌∙◌}
 use mathlib.Core.Bool.{Bool, true, cond}
@@ -9,6 +10,8 @@ use lib.ListN.{length}
 use borrow.Author.Tests.{ne_eqb}
 use Rattle.lists.proofs.Tests.{if}
 use Rattle.layout.specs.declared.outcome.Counts.{Counts}
+use Rattle.layout.specs.declared.refusal.Refusal.{Refusal}
+use Rattle.layout.specs.Refusals.{number_of, length_of}
 use Rattle.layout.specs.Words.{Words, load}
 use Rattle.ducklake.specs.Soundness.{sound}
 use Rattle.ducklake.specs.Refusals.{accepted, not_sound, short_answer_area, refuse_unless, first}
@@ -17,7 +20,6 @@ use Rattle.ducklake.proofs.facts.FirstRefusals.{NumberedFrom, first_append, unle
 use Rattle.ducklake.proofs.readings.Answers.{numbered_reading}
 use Rattle.call_laws.proofs.Promises.{outcome}
 use Rattle.call_laws.proofs.Refusals.{first_or_else, or_else_zero, or_else_some}
-use Rattle.readings.specs.declared.answer.Answer.{Answer}
 use Rattle.refusals.specs.Checked.{unanswered}
 use Rattle.readings.specs.Answers.{Answered}
 
@@ -39,8 +41,8 @@ module _ (ts : List (ℕ × Bool)) (t : NumberedFrom 1 ts) (words : List ℕ) (w
       let q : first (ts ++ ((short_answer_area, leb (length words) (length area)) ∷ [])) accepted ≡ n = number_is ∙ (first_or_else 1 ts short (omega arith) t ∙ rw (← e) (or_else_some n short z)) in
       rw (q, ne_eqb n 0 z) (record { number = refl; place = refl; length = refl; counts = refl; words = refl; area = refl })
 
-  pub tests_pass : {area' answer : List ℕ} {a : Answer} → n ≡ 0 → words ≡ answer → Answered answer area a area'
-      → Promise (answering ts words w c area) (outcome a.number 0 a.length c) w area'
+  pub tests_pass : {area' answer : List ℕ} {a : Given ℕ Refusal} → n ≡ 0 → words ≡ answer → Answered answer area a area'
+      → Promise (answering ts words w c area) (outcome (number_of a) 0 (length_of a) c) w area'
   tests_pass z f k =
       let q : first (ts ++ ((short_answer_area, leb (length words) (length area)) ∷ [])) accepted ≡ short = number_is ∙ (first_or_else 1 ts short (omega arith) t ∙ or_else_zero short (sym e ∙ z)) in
       if (leb (length words) (length area))
@@ -64,16 +66,12 @@ module _ (w : Words) (c : Counts) (r : Reading) {n : ℕ} (e : n ≡ unanswered 
   unfolding perform_reading reading_refusal unanswered
   reading_refused area z = tests_refuse tests numbered (reading_answer (load w c) r) w c area e z
 
-  pub reading_answered : (area : List ℕ) {area' answer : List ℕ} {a : Answer} → n ≡ 0 → reading_answer (load w c) r ≡ answer → Answered answer area a area'
-      → Promise (perform_reading r w c area) (outcome a.number 0 a.length c) w area'
+  pub reading_answered : (area : List ℕ) {area' answer : List ℕ} {a : Given ℕ Refusal} → n ≡ 0 → reading_answer (load w c) r ≡ answer → Answered answer area a area'
+      → Promise (perform_reading r w c area) (outcome (number_of a) 0 (length_of a) c) w area'
   unfolding perform_reading reading_refusal unanswered
   reading_answered area z f k = tests_pass tests numbered (reading_answer (load w c) r) w c area e z f k
 
-  -- what is not refused is read in sound tables, and has passed its own tests
+  -- what is not refused is read in sound tables
   pub reading_sound : n ≡ 0 → sound w c ≡ true
   unfolding unanswered
   reading_sound z = (unless_passed not_sound (sound w c) _ (omega arith) (sym e ∙ z)).0
-
-  pub reading_passed : n ≡ 0 → first (reading_refusals (load w c) r) accepted ≡ 0
-  unfolding unanswered
-  reading_passed z = (unless_passed not_sound (sound w c) _ (omega arith) (sym e ∙ z)).1

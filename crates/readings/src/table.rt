@@ -1,16 +1,18 @@
 ghost use Rattle.std.specs.Prelude.{◌≡◌};
+ghost use Rattle.layout.specs.Refusals.{number_of};
 ghost use Rattle.ducklake.specs.Readings.{Query};
 ghost use Rattle.ducklake.specs.Calls.{query_at};
 ghost use Rattle.refusals.specs.Checked.{unanswered};
 ghost use Rattle.readings.specs.Lent.{TableLent};
 
 use layout::number::{CatalogId, SnapshotId};
-use layout::outcome::{Counts, NOT_LIVE, NOT_RETAINED, NOT_SOUND};
+use layout::outcome::Counts;
+use layout::refusal::Refusal;
 use lookup::live::{is_retained, table_is_live};
 use refusals::checked::Checked;
-use refusals::first::first_refusal;
+use refusals::first::first_refused;
 
-// The number of a reading of a table's columns, files or rows, before its answer's length is known.
+// The refusal of a reading of a table's columns, files or rows, before its answer's length is known.
 pub fn refuse_table(
     checked: Checked,
     snapshots: &[u64],
@@ -18,17 +20,15 @@ pub fn refuse_table(
     counts: Counts,
     table: CatalogId,
     s: SnapshotId,
-) -> u64
+) -> Result<(), Refusal>
     requires { TableLent checked snapshots.now tables.now counts }
     ensures { (l : TableLent checked snapshots.now tables.now counts)
-        → result ≡ unanswered l.words counts (query_at s.0 (Query.files table.0)) }
+        → number_of result ≡ unanswered l.words counts (query_at s.0 (Query.files table.0)) }
 {
     if !checked.sound {
-        return NOT_SOUND;
+        return Err(Refusal::NotSound);
     }
     let there = is_retained(snapshots, counts.snapshots, s);
     let live = table_is_live(tables, counts.tables, table, s);
-    let numbers = [NOT_RETAINED, NOT_LIVE];
-    let passed = [there, live];
-    first_refusal(&numbers, &passed)
+    first_refused(&[(there, Refusal::NotRetained), (live, Refusal::NotLive)])
 }

@@ -1,3 +1,3 @@
 pub mod Checked
-pub mod Paired
+pub mod Numbered
 pub mod Few

@@ -1,5 +1,5 @@
 ghost use Rattle.std.specs.Prelude.{◌≡◌, ◌+◌, ◌/◌, ◌<◌, min, leb};
-ghost use Rattle.layout.specs.Lent.{read_at_entry};
+ghost use Rattle.layout.specs.Lent.{words_lent};
 ghost use Rattle.layout.specs.Names.{name_size};
 ghost use Rattle.layout.specs.Words.{table_limit, capacity, within};
 ghost use Rattle.call_laws.specs.Writes.{add_counts};
@@ -11,6 +11,7 @@ use layout::record::{
     ColumnRecord, DataFileRecord, DeleteFileRecord, ScheduledRecord, SchemaRecord, SnapshotRecord,
     StatisticsRecord, TableRecord,
 };
+use layout::tables::Tables;
 
 // The smaller of two numbers.
 pub fn smaller(a: usize, b: usize) -> usize
@@ -40,33 +41,27 @@ fn named_room(words: usize, size: usize, bytes: usize) -> usize
 }
 
 // What each table has room for: the whole records that its runs hold, up to the limit.
-pub fn capacity(
-    snapshots: &[u64],
-    schemas: &[u64],
-    schema_names: &[u8],
-    tables: &[u64],
-    table_names: &[u8],
-    columns: &[u64],
-    column_names: &[u8],
-    data_files: &[u64],
-    delete_files: &[u64],
-    positions: &[u64],
-    statistics: &[u64],
-    scheduled: &[u64],
-) -> Counts
-    ensures { result ≡ capacity (read_at_entry snapshots schemas schema_names tables table_names columns column_names
-        data_files delete_files positions statistics scheduled) }
+pub fn capacity(lent: Tables) -> Counts
+    ensures { result ≡ capacity (words_lent lent.entry) }
 {
     Counts {
-        snapshots: record_room(snapshots.len(), SnapshotRecord::SIZE),
-        schemas: named_room(schemas.len(), SchemaRecord::SIZE, schema_names.len()),
-        tables: named_room(tables.len(), TableRecord::SIZE, table_names.len()),
-        columns: named_room(columns.len(), ColumnRecord::SIZE, column_names.len()),
-        data_files: record_room(data_files.len(), DataFileRecord::SIZE),
-        delete_files: record_room(delete_files.len(), DeleteFileRecord::SIZE),
-        positions: smaller(POSITION_LIMIT, positions.len()),
-        statistics: record_room(statistics.len(), StatisticsRecord::SIZE),
-        scheduled: record_room(scheduled.len(), ScheduledRecord::SIZE),
+        snapshots: record_room(lent.snapshots.len(), SnapshotRecord::SIZE),
+        schemas: named_room(
+            lent.schemas.len(),
+            SchemaRecord::SIZE,
+            lent.schema_names.len(),
+        ),
+        tables: named_room(lent.tables.len(), TableRecord::SIZE, lent.table_names.len()),
+        columns: named_room(
+            lent.columns.len(),
+            ColumnRecord::SIZE,
+            lent.column_names.len(),
+        ),
+        data_files: record_room(lent.data_files.len(), DataFileRecord::SIZE),
+        delete_files: record_room(lent.delete_files.len(), DeleteFileRecord::SIZE),
+        positions: smaller(POSITION_LIMIT, lent.positions.len()),
+        statistics: record_room(lent.statistics.len(), StatisticsRecord::SIZE),
+        scheduled: record_room(lent.scheduled.len(), ScheduledRecord::SIZE),
     }
 }
 

@@ -1,4 +1,5 @@
 -- The tests of a delete against the definition's: those that are its own; and the place with 17, by the first position that is deleted already.
+use Rattle.std.specs.Prelude.{None, Option, Some}
 use Prim.Native.Nat.{ℕ, ◌+◌}
 use mathlib.Core.Path.{◌≡◌, refl, sym, ap, ◌∙◌}
 use mathlib.Core.Bool.{Bool, true, false, not, ◌&&◌}
@@ -7,8 +8,6 @@ use native.Mathlib.Omega.{arith}
 use lib.Dec.{leb, ltb, eqb}
 use lib.ListN.{length, get_or}
 use borrow.Author.Tests.{eqb-true, lt-ltb}
-use Rattle.lists.specs.declared.Found.{Found}
-use Rattle.lists.specs.declared.Found.TheVariants.{At, Nothing}
 use Rattle.lists.specs.Lists.{all, pairwise, non_empty, chained, has, place}
 use Rattle.lists.proofs.Tests.{if, and, both, clash}
 use Rattle.lists.proofs.Places.{is_at, any_place, found_tells}
@@ -36,7 +35,7 @@ unfolding positions_fit
 positions_ascending rows new h = (both (non_empty new) (chained ltb new) (both (non_empty new && chained ltb new) (all (λ p. ltb p rows) new) h).0).1
 
 -- none of the new positions is one of the old: no place is found
-pub none_where : (old new : List ℕ) {r : Found} → r ≡ place (λ p. has p old) 0 new → not (is_at r) ≡ all (λ p. not (has p old)) new
+pub none_where : (old new : List ℕ) {r : Option ℕ} → r ≡ place (λ p. has p old) 0 new → not (is_at r) ≡ all (λ p. not (has p old)) new
 none_where old new e = sym (sym (not_any_all (λ p. has p old) new) ∙ ap not (any_place (λ p. has p old) 0 new ∙ ap is_at (sym e)))
 
 -- The tests
@@ -80,11 +79,11 @@ first_offends C file new h = there (place (λ p. has p old) 0 new) refl
     old : List ℕ
     old = deleted_at C.delete_files (latest_id C) file
 
-    there : (r : Found) → place (λ p. has p old) 0 new ≡ r → (ltb (place_or_zero r) (length new) && has (get_or new (place_or_zero r) 0) old) ≡ true
-    there (At i) q =
+    there : (r : Option ℕ) → place (λ p. has p old) 0 new ≡ r → (ltb (place_or_zero r) (length new) && has (get_or new (place_or_zero r) 0) old) ≡ true
+    there (Some i) q =
         let t = found_tells (λ l. get_or new l 0) (λ p. has p old) (length new) (ap (place (λ p. has p old) 0) (sym (one_by_one new))) q in
         and (lt-ltb i (length new) t.0) t.1
-    there Nothing q = clash (sym (none_where old new (sym q))) h
+    there None q = clash (sym (none_where old new (sym q))) h
 
 module _ (w : Words) (c : Counts) (m : ℕ) (terms : Terms) (file : ℕ) (uuid : Uuid) (new : List ℕ) {n : ℕ} (e : n ≡ refusal w c m (commit_at terms (delete file uuid new))) where
   abbrev C : Catalog

@@ -1,4 +1,5 @@
 -- Two ascending lists, passed through together: the first of the one that is in the other.
+use Rattle.std.specs.Prelude.{None, Option, Some}
 use Prim.Native.Nat.{ℕ, suc, ◌+◌, ◌≤◌, ◌<◌}
 use mathlib.Core.Path.{◌≡◌, refl, sym, ap, ap₂, ◌∙◌}
 use mathlib.Core.Bool.{Bool, true, cond}
@@ -7,8 +8,6 @@ use native.Mathlib.Omega.{arith}
 use lib.Dec.{ltb}
 use lib.ListN.{length, get_or}
 use borrow.Author.Tests.{eq-eqb, ne_eqb}
-use Rattle.lists.specs.declared.Found.{Found}
-use Rattle.lists.specs.declared.Found.TheVariants.{At, Nothing}
 use Rattle.lists.specs.Lists.{any, chained, has, place}
 use Rattle.lists.specs.Runs.{from}
 use Rattle.lists.proofs.Members.{In, here, next}
@@ -21,11 +20,11 @@ use Rattle.row_deletion.proofs.Fits.{one_by_one}
 place_ext : {A : Type 0} (p q : A → Bool) (i : ℕ) (xs : List A) → ((x : A) → In x xs → p x ≡ q x) → place p i xs ≡ place q i xs
 unfolding place
 place_ext p q i [] h = refl
-place_ext p q i (x ∷ xs) h = ap₂ (λ b r. cond b (At i) r) (h x (here refl)) (place_ext p q (suc i) xs (λ y m. h y (next m)))
+place_ext p q i (x ∷ xs) h = ap₂ (λ b r. cond b (Some i) r) (h x (here refl)) (place_ext p q (suc i) xs (λ y m. h y (next m)))
 
 module _ (ds ps : List ℕ) where
   -- the place of the first from i on that is one of those from j on
-  pub offending : ℕ → ℕ → Found
+  pub offending : ℕ → ℕ → Option ℕ
   unfolding place any
   offending i j = place (λ p. has p (from (λ l. get_or ds l 0) j (length ds))) i (from (λ l. get_or ps l 0) i (length ps))
 
@@ -33,16 +32,16 @@ module _ (ds ps : List ℕ) where
   unfolding offending
   offending_start = ap₂ (λ xs ys. place (λ p. has p xs) 0 ys) (sym (one_by_one ds) ∙ from_all _ (length ds)) (sym (one_by_one ps) ∙ from_all _ (length ps))
 
-  pub offending_end : (i j : ℕ) → length ps ≤ i → offending i j ≡ Nothing
+  pub offending_end : (i j : ℕ) → length ps ≤ i → offending i j ≡ None
   unfolding offending
   offending_end i j h = place_end _ _ i (length ps) h
 
-  pub offending_past : (i j : ℕ) → length ds ≤ j → offending i j ≡ Nothing
+  pub offending_past : (i j : ℕ) → length ds ≤ j → offending i j ≡ None
   unfolding offending any
   offending_past i j h = place_nothing _ i (from (λ l. get_or ps l 0) i (length ps)) (λ p m. rw (from_end (λ l. get_or ds l 0) j (length ds) h) refl)
 
   module _ (i j : ℕ) (h : i < length ps) (k : j < length ds) where
-    pub offending_here : get_or ps i 0 ≡ get_or ds j 0 → offending i j ≡ At i
+    pub offending_here : get_or ps i 0 ≡ get_or ds j 0 → offending i j ≡ Some i
     unfolding offending any
     offending_here e = place_hit (λ l. get_or ps l 0) _ i (length ps) h (rw (from_step (λ l. get_or ds l 0) j (length ds) k, eq-eqb (get_or ps i 0) (get_or ds j 0) e) refl)
 

@@ -1,7 +1,5 @@
 -- The positions of a data file that are deleted: where they lie, and which of a delete's are among them.
-use Rattle.std.specs.Prelude.{ℕ, ◌+◌, ◌≤◌, ◌≡◌, true, cond, List, ltb, eqb, length, take, drop}
-use Rattle.lists.specs.declared.Found.{Found}
-use Rattle.lists.specs.declared.Found.TheVariants.{At, Nothing}
+use Rattle.std.specs.Prelude.{ℕ, ◌+◌, ◌≤◌, ◌≡◌, true, cond, List, ltb, eqb, length, take, drop, None, Option, Some}
 use Rattle.lists.specs.Lists.{chained, has, place}
 use Rattle.layout.specs.declared.outcome.Counts.{Counts}
 use Rattle.layout.specs.Words.{position_limit, positions_before, snapshots_in, delete_files_in}
@@ -25,9 +23,9 @@ pub record DeletedPart (run : List ℕ) (n s file start count : ℕ) : Type 0 wh
 abbrev pub deleted_in : (ns ds ps : List ℕ) → Counts → ℕ → List ℕ
 deleted_in ns ds ps c file = deleted_at (delete_files_in ds ps c.delete_files) (latest_of (snapshots_in ns c.snapshots)).id file
 
-abbrev pub place_or_zero : Found → ℕ
-place_or_zero (At i) = i
-place_or_zero Nothing = 0
+abbrev pub place_or_zero : Option ℕ → ℕ
+place_or_zero (Some i) = i
+place_or_zero None = 0
 
 -- "with 17, the index of an offending position in the call's list (..). Every other place is 0": that of the first of the new positions that is one of the old
 unfoldable pub refused_place : ℕ → (old new : List ℕ) → ℕ

@@ -5,11 +5,12 @@ ghost use Rattle.layout.specs.Catalog.{delete_file_record};
 ghost use Rattle.layout.specs.Records.{delete_file_words};
 ghost use Rattle.call_laws.specs.Writes.{opened};
 
-use layout::number::{ABSENT, CatalogId, FileId, SnapshotId};
+use layout::number::{CatalogId, FileId, SnapshotId};
 use layout::record::{DeleteFileRecord, Uuid};
 use records::delete_file::write_delete_file;
 
 // A delete file of so many positions that begins at a snapshot, behind the first n.
+// Stays: this and `append_data_file` each write a record of another type, with fields of its own.
 pub fn append_delete_file(
     delete_files: &mut [u64],
     n: usize,
@@ -32,7 +33,7 @@ pub fn append_delete_file(
             id,
             table,
             begin,
-            end: SnapshotId(ABSENT),
+            end: SnapshotId::ABSENT,
             data_file,
             delete_count,
             uuid,

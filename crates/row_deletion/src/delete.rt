@@ -7,7 +7,7 @@ use crate::place::refused_place;
 use crate::refuse::{delete_adds, refuse_delete};
 use crate::write::write_delete;
 use layout::number::FileId;
-use layout::outcome::{ACCEPTED, Counts, Outcome, Terms};
+use layout::outcome::{Counts, Outcome, Terms};
 use layout::record::Uuid;
 use refusals::checked::Checked;
 use refusals::room::counts_after;
@@ -32,7 +32,7 @@ pub fn delete_rows(
         → Promise (perform (commit_at terms (delete data_file.0 uuid new_positions.now)) l.words counts area) result
         (delete_leaves l.words snapshots.new delete_files.new positions.new) area }
 {
-    let number = refuse_delete(
+    if let Err(refusal) = refuse_delete(
         checked,
         snapshots,
         data_files,
@@ -44,10 +44,9 @@ pub fn delete_rows(
         data_file,
         uuid,
         new_positions,
-    );
-    if number != ACCEPTED {
+    ) {
         let place = refused_place(
-            number,
+            refusal,
             snapshots,
             delete_files,
             positions,
@@ -56,10 +55,8 @@ pub fn delete_rows(
             new_positions,
         );
         return Outcome {
-            number,
             place,
-            length: 0,
-            counts,
+            ..Outcome::refused(refusal, counts)
         };
     }
     let count = write_delete(
@@ -75,10 +72,5 @@ pub fn delete_rows(
     );
     let added = delete_adds(count);
     let after = counts_after(counts, added);
-    Outcome {
-        number: ACCEPTED,
-        place: 0,
-        length: 0,
-        counts: after,
-    }
+    Outcome::accepted(0, after)
 }

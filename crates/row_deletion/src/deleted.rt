@@ -5,12 +5,11 @@ ghost use Rattle.lookup.specs.Positions.{PositionsWithin};
 ghost use Rattle.row_deletion.specs.Deleted.{DeletesKnown, DeletedPart};
 
 use layout::number::{FileId, SnapshotId};
-use lists::Found;
 use lookup::deletion::find_live_delete_file;
 use lookup::positions::positions_before;
 use records::delete_file::delete_file_delete_count;
 
-// So many words of a run, from `start` on.
+// So many words of a run, from `start` on. Not lookup's Block: DeletedPart and merge_positions count.
 #[derive(Clone, Copy)]
 pub struct Part {
     pub start: usize,
@@ -24,12 +23,12 @@ pub fn deleted_part(delete_files: &[u64], n: usize, data_file: FileId, s: Snapsh
 {
     let found = find_live_delete_file(delete_files, n, data_file, s);
     match found {
-        Found::At(i) => {
+        Some(i) => {
             let start = positions_before(delete_files, i);
             let count = delete_file_delete_count(delete_files, i) as usize;
             Part { start, count }
         }
-        Found::Nothing => Part { start: 0, count: 0 },
+        None => Part { start: 0, count: 0 },
     }
 }
 

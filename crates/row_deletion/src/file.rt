@@ -6,11 +6,10 @@ ghost use Rattle.lookup.specs.Order.{DataFilesById};
 
 use layout::number::{CatalogId, FileId, RowId, SnapshotId};
 use layout::record::{DataFileRecord, Uuid};
-use lists::Found;
 use lookup::find::find_data_file;
 use records::data_file::data_file_at;
 
-// What stands for a data file that isn't there.
+// What stands for a data file that isn't there: no Option, since the definition data_file_of_id gives a record of zeros.
 const NO_DATA_FILE: DataFileRecord = DataFileRecord {
     id: FileId(0),
     table: CatalogId(0),
@@ -28,7 +27,7 @@ pub fn data_file_of_id(data_files: &[u64], n: usize, id: FileId) -> DataFileReco
 {
     let found = find_data_file(data_files, n, id);
     match found {
-        Found::At(i) => data_file_at(data_files, i),
-        Found::Nothing => NO_DATA_FILE,
+        Some(i) => data_file_at(data_files, i),
+        None => NO_DATA_FILE,
     }
 }

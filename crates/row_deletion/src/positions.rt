@@ -2,7 +2,6 @@ ghost use Rattle.std.specs.Prelude.{◌≡◌, true, not, ltb};
 ghost use Rattle.lists.specs.Lists.{all, chained, has, place};
 ghost use Rattle.ducklake.specs.Arguments.{positions_fit};
 
-use lists::Found;
 use runs::words::words_ascend;
 
 // "positions empty, not ascending strictly, or past the file": whether those of a file of so many rows are not. They ascend, so the last is the highest.
@@ -19,20 +18,21 @@ pub fn positions_fit(rows: u64, positions: &[u64]) -> bool
 }
 
 // "17 a position already deleted": the place of the first of the positions that is one of the deleted ones, where both ascend: in one pass.
-pub fn first_deleted(deleted: &[u64], positions: &[u64]) -> Found
+pub fn first_deleted(deleted: &[u64], positions: &[u64]) -> Option<usize>
     ensures { chained ltb deleted.now ≡ true → chained ltb positions.now ≡ true
         → result ≡ place (λ p. has p deleted.now) 0 positions.now }
 {
     let mut i: usize = 0;
     let mut j: usize = 0;
+    // Stays: each turn moves one of two cursors.
     while i < positions.len() {
         if deleted.len() <= j {
-            return Found::Nothing;
+            return None;
         }
         let p = positions[i];
         let d = deleted[j];
         if p == d {
-            return Found::At(i);
+            return Some(i);
         }
         if p < d {
             i += 1;
@@ -40,7 +40,7 @@ pub fn first_deleted(deleted: &[u64], positions: &[u64]) -> Found
             j += 1;
         }
     }
-    Found::Nothing
+    None
 }
 
 // Whether none of them is.
@@ -48,9 +48,5 @@ pub fn none_deleted(deleted: &[u64], positions: &[u64]) -> bool
     ensures { chained ltb deleted.now ≡ true → chained ltb positions.now ≡ true
         → result ≡ all (λ p. not (has p deleted.now)) positions.now }
 {
-    let found = first_deleted(deleted, positions);
-    match found {
-        Found::At(_) => false,
-        Found::Nothing => true,
-    }
+    first_deleted(deleted, positions).is_none()
 }

@@ -1,4 +1,5 @@
 ghost use Rattle.std.specs.Prelude.{◌≡◌, ℕ};
+ghost use Rattle.layout.specs.Refusals.{number_of};
 ghost use Rattle.ducklake.specs.Commits.{delete};
 ghost use Rattle.ducklake.specs.Calls.{commit_at, refusal};
 ghost use Rattle.row_deletion.specs.Lent.{DeleteLent, delete_adds};
@@ -10,15 +11,13 @@ use commits::number::{next_snapshot, snapshot_fits};
 use commits::time::is_in_time;
 use commits::uuid::uuid_is_free;
 use layout::number::FileId;
-use layout::outcome::{
-    ALREADY_DELETED, BAD_POSITIONS, Counts, NO_ROOM, NOT_LIVE, NOT_SOUND, NUMBER_TOO_LARGE,
-    TIME_FALLS, Terms, UUID_TAKEN,
-};
+use layout::outcome::{Counts, Terms};
 use layout::record::{DELETED_FROM_TABLE, Uuid};
+use layout::refusal::Refusal;
 use lookup::find::latest_snapshot;
 use lookup::live::data_file_is_live;
 use refusals::checked::Checked;
-use refusals::first::first_refusal;
+use refusals::first::first_refused;
 use refusals::room::has_room;
 
 // What a delete adds: a snapshot, and a delete file of so many positions.
@@ -38,7 +37,7 @@ pub fn delete_adds(positions: usize) -> Counts
     }
 }
 
-// The number of 'delete' on tables that were checked: of its tests, in the definition's order, the first that isn't passed.
+// The refusal of 'delete' on tables that were checked: of its tests, in the definition's order, the first that isn't passed.
 pub fn refuse_delete(
     checked: Checked,
     snapshots: &[u64],
@@ -51,14 +50,14 @@ pub fn refuse_delete(
     data_file: FileId,
     uuid: Uuid,
     new_positions: &[u64],
-) -> u64
+) -> Result<(), Refusal>
     requires { DeleteLent checked snapshots.now data_files.now delete_files.now positions.now scheduled.now counts }
     ensures { (l : DeleteLent checked snapshots.now data_files.now delete_files.now positions.now
         scheduled.now counts) (m : ℕ)
-        → result ≡ refusal l.words counts m (commit_at terms (delete data_file.0 uuid new_positions.now)) }
+        → number_of result ≡ refusal l.words counts m (commit_at terms (delete data_file.0 uuid new_positions.now)) }
 {
     if !checked.sound {
-        return NOT_SOUND;
+        return Err(Refusal::NotSound);
     }
     let latest = latest_snapshot(snapshots, counts.snapshots);
     let live = data_file_is_live(data_files, counts.data_files, data_file, latest.id);
@@ -78,15 +77,13 @@ pub fn refuse_delete(
     let fits = snapshot_fits(next);
     let added = delete_adds(old.len() + new_positions.len());
     let room = has_room(checked.room, counts, added);
-    let numbers = [
-        NOT_LIVE,
-        TIME_FALLS,
-        UUID_TAKEN,
-        BAD_POSITIONS,
-        ALREADY_DELETED,
-        NUMBER_TOO_LARGE,
-        NO_ROOM,
-    ];
-    let passed = [live, in_time, free, fit, undeleted, fits, room];
-    first_refusal(&numbers, &passed)
+    first_refused(&[
+        (live, Refusal::NotLive),
+        (in_time, Refusal::TimeFalls),
+        (free, Refusal::UuidTaken),
+        (fit, Refusal::BadPositions),
+        (undeleted, Refusal::AlreadyDeleted),
+        (fits, Refusal::NumberTooLarge),
+        (room, Refusal::NoRoom),
+    ])
 }

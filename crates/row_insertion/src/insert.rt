@@ -6,7 +6,7 @@ ghost use Rattle.row_insertion.specs.Lent.{InsertLent, insert_leaves};
 use crate::refuse::{insert_adds, refuse_insert};
 use crate::write::write_insert;
 use layout::number::CatalogId;
-use layout::outcome::{ACCEPTED, Counts, Outcome, Terms};
+use layout::outcome::{Counts, Outcome, Terms};
 use layout::record::Uuid;
 use refusals::checked::Checked;
 use refusals::room::counts_after;
@@ -35,7 +35,7 @@ pub fn insert_rows(
         → Promise (perform (commit_at terms (insert table.0 record_count uuid new_statistics.now)) l.words counts area) result
         (insert_leaves l.words snapshots.new tables.new data_files.new statistics.new) area }
 {
-    let number = refuse_insert(
+    if let Err(refusal) = refuse_insert(
         checked,
         snapshots,
         tables,
@@ -49,14 +49,8 @@ pub fn insert_rows(
         record_count,
         uuid,
         new_statistics,
-    );
-    if number != ACCEPTED {
-        return Outcome {
-            number,
-            place: 0,
-            length: 0,
-            counts,
-        };
+    ) {
+        return Outcome::refused(refusal, counts);
     }
     write_insert(
         snapshots,
@@ -72,10 +66,5 @@ pub fn insert_rows(
     );
     let added = insert_adds(new_statistics);
     let after = counts_after(counts, added);
-    Outcome {
-        number: ACCEPTED,
-        place: 0,
-        length: 0,
-        counts: after,
-    }
+    Outcome::accepted(0, after)
 }

@@ -1,5 +1,6 @@
 ghost use Rattle.std.specs.Prelude.{◌≡◌, true, ◌&&◌, List, ℕ, ◌+◌};
 ghost use Rattle.layout.specs.Catalog.{snapshot_of};
+ghost use Rattle.layout.specs.Refusals.{number_of};
 ghost use Rattle.layout.specs.Words.{Words, tables_in};
 ghost use Rattle.ducklake.specs.Kinds.{inserted_into_table};
 ghost use Rattle.ducklake.specs.Liveness.{table_of_id};
@@ -15,15 +16,13 @@ use commits::number::{next_snapshot, snapshot_fits};
 use commits::time::is_in_time;
 use commits::uuid::uuid_is_free;
 use layout::number::CatalogId;
-use layout::outcome::{
-    BAD_RECORD_COUNT, BAD_STATISTICS, Counts, NO_ROOM, NOT_LIVE, NOT_SOUND, NUMBER_TOO_LARGE,
-    TIME_FALLS, Terms, UUID_TAKEN,
-};
+use layout::outcome::{Counts, Terms};
 use layout::record::{INSERTED_INTO_TABLE, SnapshotRecord, Uuid};
+use layout::refusal::Refusal;
 use lookup::find::latest_snapshot;
 use lookup::live::table_is_live;
 use refusals::checked::Checked;
-use refusals::first::first_refusal;
+use refusals::first::first_refused;
 use refusals::room::has_room;
 
 // What an insert adds: a snapshot, a data file and its statistics.
@@ -64,7 +63,7 @@ fn numbers_fit(
     fits & rows
 }
 
-// The number of 'insert' on tables that were checked: of its tests, in the definition's order, the first that isn't passed.
+// The refusal of 'insert' on tables that were checked: of its tests, in the definition's order, the first that isn't passed.
 pub fn refuse_insert(
     checked: Checked,
     snapshots: &[u64],
@@ -79,16 +78,16 @@ pub fn refuse_insert(
     record_count: u64,
     uuid: Uuid,
     new_statistics: &[u64],
-) -> u64
+) -> Result<(), Refusal>
     requires { checked.sound ≡ true
         → InsertChecked snapshots.now tables.now columns.now data_files.now delete_files.now scheduled.now counts }
     ensures { (w : Words) → w.snapshots ≡ snapshots.now → w.tables ≡ tables.now → w.columns ≡ columns.now
         → w.data_files ≡ data_files.now → w.delete_files ≡ delete_files.now → w.scheduled ≡ scheduled.now
         → checked ≡ checked_of w counts
-        → (m : ℕ) → result ≡ refusal w counts m (commit_at terms (insert table.0 record_count uuid new_statistics.now)) }
+        → (m : ℕ) → number_of result ≡ refusal w counts m (commit_at terms (insert table.0 record_count uuid new_statistics.now)) }
 {
     if !checked.sound {
-        return NOT_SOUND;
+        return Err(Refusal::NotSound);
     }
     let latest = latest_snapshot(snapshots, counts.snapshots);
     let live = table_is_live(tables, counts.tables, table, latest.id);
@@ -114,15 +113,13 @@ pub fn refuse_insert(
     );
     let added = insert_adds(new_statistics);
     let room = has_room(checked.room, counts, added);
-    let numbers = [
-        NOT_LIVE,
-        TIME_FALLS,
-        BAD_RECORD_COUNT,
-        UUID_TAKEN,
-        BAD_STATISTICS,
-        NUMBER_TOO_LARGE,
-        NO_ROOM,
-    ];
-    let passed = [live, in_time, counted, free, given, fits, room];
-    first_refusal(&numbers, &passed)
+    first_refused(&[
+        (live, Refusal::NotLive),
+        (in_time, Refusal::TimeFalls),
+        (counted, Refusal::BadRecordCount),
+        (free, Refusal::UuidTaken),
+        (given, Refusal::BadStatistics),
+        (fits, Refusal::NumberTooLarge),
+        (room, Refusal::NoRoom),
+    ])
 }

@@ -199,11 +199,3 @@ module _ {start n : ℕ} {ps part w : List ℕ} {k j p : ℕ} (asc : chained ltb
 
 pub filling_end : {start n : ℕ} {ps part w : List ℕ} {k j p : ℕ} → length part ≡ length (rows_but start n ps) → Filling start n ps part w k j p → n ≤ p → w ≡ rows_but start n ps
 filling_end {start} {n} {ps} {part} {w} {k} {j} {p} l f h = sym (sym (overwrite_whole part (rows_but start n ps) l) ∙ (f.comes ∙ sent_end place (kept ps) n (λ p. start + p) w k p h))
-
--- a data file's first row, its record count and its deleted positions, as they were read
-module _ {a b : ℕ} {ds : List ℕ} {x y : ℕ} {xs : List ℕ} (p : x ≡ a) (q : y ≡ b) (r : xs ≡ ds) where
-  pub rows_read : rows_but x y xs ≡ rows_but a b ds
-  rows_read = rw (p, q, r) refl
-
-  pub fit_read : {l : ℕ} → RowsFit a b ds → l ≡ length (rows_but a b ds) → RowsFit x y xs × (l ≡ length (rows_but x y xs))
-  fit_read f e = (rw (p, q, r) f, e ∙ sym (ap length rows_read))

@@ -7,7 +7,8 @@ use Rattle.layout.specs.Words.{table_limit, position_limit, data_file_at, data_f
 use Rattle.ducklake.specs.Liveness.{delete_files_at, deleted_at}
 use Rattle.ducklake.specs.Soundness.{data_file_in_range}
 use Rattle.lookup.specs.Order.{DataFilesById}
-use Rattle.lookup.specs.Positions.{PositionsWithin, PositionsLocated}
+use Rattle.lookup.specs.declared.positions.DeleteFiles.{DeleteFiles}
+use Rattle.lookup.specs.Positions.{PositionsWithin}
 use Rattle.scans.specs.Deletions.{DeleteFilesFound}
 
 -- the delete files that are live at s: at most one of a data file, with positions that ascend below its record_count
@@ -17,14 +18,13 @@ pub record DeletesFit (files : List ℕ) (n : ℕ) (run positions : List ℕ) (m
   pub below : (k : ℕ) → k < n
       → all (λ p. ltb p (data_file_at files k).body.record_count) (deleted_at (delete_files_in run positions m) s (data_file_at files k).id) ≡ true
 
--- n data files and m delete files by which rows are read: those live at s have been found, and their positions located
-pub record RowsLocated (files : List ℕ) (n : ℕ) (run positions : List ℕ) (m s : ℕ) (places starts : List ℕ) : Type 0 where
+-- n data files and the delete files by which rows are read: those live at s have been found
+pub record RowsLocated (files : List ℕ) (n : ℕ) (d : DeleteFiles) (s : ℕ) (places : List ℕ) : Type 0 where
   pub lent : data_file_size * n ≤ length files
   pub few : n ≤ table_limit
   pub ranges : all data_file_in_range (data_files_in files n) ≡ true
-  pub deletes : DeletesFit files n run positions m s
-  pub found : DeleteFilesFound files n run m s places
-  pub located : PositionsLocated run positions starts m
+  pub deletes : DeletesFit files n d.records.now d.positions.now d.n s
+  pub found : DeleteFilesFound files n d.records.now d.n s places
 
 pub record RowsReadable (files run positions : List ℕ) (c : Counts) (s : ℕ) : Type 0 where
   pub by_id : DataFilesById files c.data_files

@@ -1,10 +1,11 @@
 -- Words in order, seen at a place or two: how many are below x, whether all are, and where x can stand.
-use Rattle.std.proofs.Common.{◌≡◌, ℕ, ◌+◌, ◌-◌, ◌<◌, ◌≤◌, true, ◌&&◌, eqb, ltb, leb, map, sym, ap, ◌∙◌, arith, ltb-false, ltb-true, lt-ltb, eq-eqb, ne_eqb, leb-true}
-use Rattle.lists.specs.declared.Found.TheVariants.{At, Nothing}
+use Rattle.std.proofs.Common.{◌≡◌, ℕ, ◌+◌, ◌-◌, ◌<◌, ◌≤◌, true, ◌&&◌, eqb, ltb, leb, map, sym, ap, ◌∙◌, arith, ltb-false, ltb-true, lt-ltb, eq-eqb, ne_eqb, leb-true, le-leb, None, Some}
+use Rattle.std.proofs.lemmas.List.{length-map}
 use Rattle.lists.specs.Lists.{range, all, chained, count, place}
 use Rattle.lists.proofs.Tests.{if, both, same_test, ltb_suc}
 use Rattle.lists.proofs.Members.{all_in, in_all, in_map, in_map_of, in_range_lem, range_in}
-use Rattle.lists.proofs.Counts.{count_ext}
+use Rattle.lists.proofs.Counts.{count_ext, count_whole}
+use Rattle.lists.proofs.Loops.{length-range}
 use Rattle.lists.proofs.Places.{place_first, place_nowhere}
 use Rattle.lists.proofs.Search.{ascending, ascending_weakly, never_falling_lem, below, below_start, below_up, below_down, below_end}
 
@@ -33,6 +34,12 @@ parted_through f n e r h x {a} {b} u v k =
     let t = both (leb a x) (ltb x b) k in
     parted_below f n e r i.1 (x + 1) (omega (arith, ltb-true x b t.1)) i.0 (omega (arith, leb-true a x t.0)) ∙ count_ext _ _ _ (λ y m. ltb_suc y x)
 
+-- all are at most x, where the last is
+pub all_through : (f : ℕ → ℕ) (n : ℕ) → chained leb (map f (range 0 n)) ≡ true → (x : ℕ) → (0 < n → f (n - 1) ≤ x) → n ≡ count (λ y. leb y x) (map f (range 0 n))
+all_through f n e x h =
+    sym (count_whole _ _ (λ y m. let t = in_map_of f (range 0 n) m in let i = in_range_lem 0 n t.1 in
+    le-leb y x (omega (arith, t.2, h (omega arith), never_falling_lem f n e t.0 (n - 1) (omega arith) (omega arith)))) ∙ simp (length-map, length-range))
+
 -- x can only stand from lo up to, and without, hi
 pub record Between (f : ℕ → ℕ) (x n lo hi : ℕ) : Type 0 where
   pub ordered : lo ≤ hi
@@ -59,10 +66,10 @@ module _ (f : ℕ → ℕ) (x n : ℕ) (e : chained ltb (map f (range 0 n)) ≡ 
         more = λ j k l. if (ltb m j) (λ t. omega (arith, ascending f n e m j (ltb-true m j t) l)) (λ t. let i : j ≡ m = omega (arith, ltb-false m j t) in rw i s);
       }
 
-  pub here : (m : ℕ) → m < n → f m ≡ x → place (λ y. eqb y x) 0 (map f (range 0 n)) ≡ At m
+  pub here : (m : ℕ) → m < n → f m ≡ x → place (λ y. eqb y x) 0 (map f (range 0 n)) ≡ Some m
   here m h s = place_first f (λ y. eqb y x) n m h (eq-eqb (f m) x s) (λ j k. ne_eqb (f j) x (λ (t : f j ≡ x). omega (arith, ascending f n e j m k h)))
 
-  pub nowhere : {lo hi : ℕ} → Between f x n lo hi → hi ≤ lo → place (λ y. eqb y x) 0 (map f (range 0 n)) ≡ Nothing
+  pub nowhere : {lo hi : ℕ} → Between f x n lo hi → hi ≤ lo → place (λ y. eqb y x) 0 (map f (range 0 n)) ≡ None
   nowhere {lo} {hi} b h =
       place_nowhere f (λ y. eqb y x) n (λ j k. ne_eqb (f j) x (λ (t : f j ≡ x).
       if (ltb j lo) (λ s. omega (arith, b.less j (ltb-true j lo s))) (λ s. omega (arith, b.more j (omega (arith, ltb-false j lo s)) k))))

@@ -10,13 +10,10 @@ pub fn is_flagged(flags: &[u8], i: usize) -> bool
     flags[i] == 1
 }
 
+// Stays: the truth value is what is written; it chooses no step.
 pub fn set_flag(flags: &mut [u8], i: usize, stays: bool)
     requires { i < length flags.old }
     ensures { flags.new ≡ slice_set flags.old i (bit stays) }
 {
-    if stays {
-        flags[i] = 1;
-        return;
-    }
-    flags[i] = 0;
+    flags[i] = u8::from(stays);
 }

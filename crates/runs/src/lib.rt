@@ -5,9 +5,7 @@
 pub mod fields;
 pub mod flags;
 pub mod hints;
-pub mod kept_bytes;
-pub mod kept_words;
-pub mod pairs;
+pub mod kept;
 pub mod probes;
 pub mod subset;
 pub mod update;

@@ -1,81 +1,46 @@
 // Where a search in words that never fall looks. Any place between its ends would do: these are chosen so that it looks at few.
-ghost use Rattle.std.specs.Prelude.{◌≡◌, ◌+◌, ◌-◌, ◌*◌, ◌<◌, ◌≤◌, min, length};
+ghost use Rattle.std.specs.Prelude.{◌<◌, ◌≤◌};
 
-use crate::fields::field_at;
+use std::num::wrapping_add_usize;
 
-// Words so far apart, or so many, are not taken to rise evenly: two numbers below this have a product that fits a word.
-const WIDE: u64 = 4294967296;
-
-// Where x stands if the words rise evenly from the first to the last, as ids do: where a search begins.
-pub fn interpolate(w: &[u64], size: usize, at: usize, n: usize, x: u64) -> usize
-    requires { (size * n ≤ length w.now) × (at < size) }
-{
-    if n == 0 {
-        return 0;
-    }
-    let first = field_at(w, size, at, 0);
-    let last = field_at(w, size, at, n - 1);
-    if x <= first {
-        return 0;
-    }
-    if last <= x {
-        return n - 1;
-    }
-    let d = x - first;
-    let span = last - first;
-    let m = n as u64;
-    if WIDE <= span {
-        return n / 2;
-    }
-    if WIDE <= m {
-        return n / 2;
-    }
-    (d * m / (span + 1)) as usize
+// How far the search for a word has come: the place it looked at last, how many places to go on from there, and how many it goes on at least.
+#[derive(Clone, Copy)]
+pub struct Search {
+    last: usize,
+    step: usize,
+    reach: usize,
 }
 
-fn smaller(a: usize, b: usize) -> usize
-    ensures { result ≡ min a b }
-{
-    if a < b {
-        return a;
+impl Search {
+    // A search that begins at `near`.
+    pub fn from(near: usize) -> Search {
+        Search {
+            last: near,
+            step: 0,
+            reach: 1,
+        }
     }
-    b
-}
 
-// How many numbers lie between two.
-fn between(x: u64, y: u64) -> usize
-    ensures { result ≡ (x - y - 1) + (y - x - 1) }
-{
-    if x < y {
-        return (y - x - 1) as usize;
+    // The place to look at: so many steps beyond the last one from the end that it became, and at most half way to the other. At first `near` itself.
+    pub fn place(&self, lo: usize, hi: usize) -> usize
+        requires { lo < hi }
+        ensures { (lo ≤ result) × (result < hi) }
+    {
+        let s = self.step.min((hi - lo) / 2);
+        if self.last < lo {
+            return lo + s;
+        }
+        if hi <= self.last {
+            return hi - 1 - s;
+        }
+        self.last
     }
-    if y < x {
-        return (x - y - 1) as usize;
-    }
-    0
-}
 
-// How far to go from a word y for x: past as many words as there are numbers between them, and at least a quarter of `reach`.
-pub fn step_towards(x: u64, y: u64, reach: usize) -> usize {
-    let far = between(x, y);
-    let least = reach / 4;
-    if far < least {
-        return least;
+    // The word y stands at the place m, and x is sought: it goes on past as many words as there are numbers between them, and at least a quarter of its
+    // reach, which doubles.
+    pub fn found(&mut self, m: usize, x: u64, y: u64) {
+        self.last = m;
+        self.step = (x.abs_diff(y).saturating_sub(1) as usize).max(self.reach / 4);
+        self.reach = wrapping_add_usize(self.reach, self.reach);
     }
-    far
-}
-
-// The place to look at after `last`: so many steps beyond it from the end that it became, and at most half way to the other. At first `last` itself.
-pub fn probe(lo: usize, hi: usize, last: usize, step: usize) -> usize
-    requires { lo < hi }
-    ensures { (lo ≤ result) × (result < hi) }
-{
-    let s = smaller(step, (hi - lo) / 2);
-    if last < lo {
-        return lo + s;
-    }
-    if hi <= last {
-        return hi - 1 - s;
-    }
-    last
 }

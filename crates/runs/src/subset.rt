@@ -7,20 +7,17 @@ pub fn is_subset(a: &[u64], b: &[u64]) -> bool
     ensures { result ≡ all (λ x. has x b.now) a.now }
 {
     let mut i: usize = 0;
-    let mut j: usize = 0;
-    while i < a.len() {
-        if b.len() <= j {
-            return false;
+    for &y in b {
+        if i == a.len() {
+            return true;
         }
         let x = a[i];
-        let y = b[j];
         if x < y {
             return false;
         }
-        j += 1;
         if x == y {
             i += 1;
         }
     }
-    true
+    i == a.len()
 }

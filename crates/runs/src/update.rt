@@ -25,14 +25,11 @@ pub fn set_where(
     requires { (size * n ≤ length w.old) × (key < size) × (at < size) }
     ensures { w.new ≡ each_record size (set_where key at k old new) w.old n }
 {
-    let mut i: usize = 0;
-    while i < n {
-        let j = i;
-        let x = field_at(w, size, key, j);
-        let y = field_at(w, size, at, j);
-        i += 1;
+    for i in 0..n {
+        let x = field_at(w, size, key, i);
+        let y = field_at(w, size, at, i);
         if (x == k) & (y == old) {
-            set_field(w, size, at, j, new);
+            set_field(w, size, at, i, new);
         }
     }
 }

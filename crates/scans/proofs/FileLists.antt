@@ -1,12 +1,11 @@
 -- File lists: what the delete file found tells of a data file's two words, and the loop that lays them.
+use Rattle.std.specs.Prelude.{None, Option, Some}
 use Prim.Native.Nat.{ℕ, zero, suc, ◌+◌, ◌*◌, ◌≤◌, ◌<◌}
 use mathlib.Core.Path.{◌≡◌, refl, sym, ap, ◌∙◌}
 use mathlib.Core.Bool.{Bool, true, false, ◌&&◌, and-true, and-false}
 use mathlib.Core.List.{List, [], ◌∷◌, map, flat_map}
 use native.Mathlib.Omega.{arith}
 use lib.ListN.{length, get_or, set, length-set}
-use Rattle.lists.specs.declared.Found.{Found}
-use Rattle.lists.specs.declared.Found.TheVariants.{At, Nothing}
 use Rattle.lists.specs.Lists.{range, place, filter}
 use Rattle.lists.specs.Runs.{overwrite}
 use Rattle.lists.proofs.Tests.{if}
@@ -31,7 +30,7 @@ two_words w k {a} {b} h p q =
 
 -- the first that passes leads those that pass
 module _ {A : Type 0} (f : ℕ → A) (p : A → Bool) where
-  filter_at : (n i : ℕ) {j : ℕ} → place p i (map f (range i n)) ≡ At j → (xs : List A) × (filter p (map f (range i n)) ≡ f j ∷ xs)
+  filter_at : (n i : ℕ) {j : ℕ} → place p i (map f (range i n)) ≡ Some j → (xs : List A) × (filter p (map f (range i n)) ≡ f j ∷ xs)
   unfolding range place filter
   filter_at zero i e = let z : ◌≡◌ {A = ℕ} 0 1 = cc in absurd (omega arith)
   filter_at (suc n) i {j} e =
@@ -39,7 +38,7 @@ module _ {A : Type 0} (f : ℕ → A) (p : A → Bool) where
       (λ b. let q : i ≡ j = cc (rw b at e) in rw b (filter p (map f (range (suc i) n)), ap (λ k. f k ∷ filter p (map f (range (suc i) n))) q))
       (λ b. rw b (filter_at n (suc i) (rw b at e)))
 
-  filter_nowhere : (n i : ℕ) → place p i (map f (range i n)) ≡ Nothing → filter p (map f (range i n)) ≡ []
+  filter_nowhere : (n i : ℕ) → place p i (map f (range i n)) ≡ None → filter p (map f (range i n)) ≡ []
   unfolding range place filter
   filter_nowhere zero i e = refl
   filter_nowhere (suc n) i e =
@@ -49,37 +48,37 @@ module _ {A : Type 0} (f : ℕ → A) (p : A → Bool) where
 
 -- of m delete files, those of a data file that are live at s
 module _ (run positions : List ℕ) (m s file : ℕ) where
-  abbrev pub sought : Found
+  abbrev pub sought : Option ℕ
   sought = place (deletes_in s file) 0 (delete_files_in run positions m)
 
-  pub delete_files_at_lem : {j : ℕ} → sought ≡ At j → (ds : List (Versioned DeleteFile)) × (delete_files_at (delete_files_in run positions m) s file ≡ delete_file_at run positions j ∷ ds)
+  pub delete_files_at_lem : {j : ℕ} → sought ≡ Some j → (ds : List (Versioned DeleteFile)) × (delete_files_at (delete_files_in run positions m) s file ≡ delete_file_at run positions j ∷ ds)
   unfolding delete_files_at
   delete_files_at_lem e = filter_at (delete_file_at run positions) (deletes_in s file) m 0 e
 
-  pub no_delete_files : sought ≡ Nothing → delete_files_at (delete_files_in run positions m) s file ≡ []
+  pub no_delete_files : sought ≡ None → delete_files_at (delete_files_in run positions m) s file ≡ []
   unfolding delete_files_at
   no_delete_files e = filter_nowhere (delete_file_at run positions) (deletes_in s file) m 0 e
 
   delete_id_is : or_absent (map (λ d. d.id) (delete_files_at (delete_files_in run positions m) s file)) ≡ delete_id_at run (from_one sought)
   delete_id_is = by sought refl
     where
-      by : (r : Found) → sought ≡ r → or_absent (map (λ d. d.id) (delete_files_at (delete_files_in run positions m) s file)) ≡ delete_id_at run (from_one r)
-      by (At j) e = rw (delete_files_at_lem e).1 refl
-      by Nothing e = rw (no_delete_files e) refl
+      by : (r : Option ℕ) → sought ≡ r → or_absent (map (λ d. d.id) (delete_files_at (delete_files_in run positions m) s file)) ≡ delete_id_at run (from_one r)
+      by (Some j) e = rw (delete_files_at_lem e).1 refl
+      by None e = rw (no_delete_files e) refl
 
   place_most : from_one sought ≤ m
   place_most = by sought refl
     where
-      by : (r : Found) → sought ≡ r → from_one r ≤ m
-      by (At j) e = omega (arith, (found_tells (delete_file_at run positions) (deletes_in s file) m refl e).0)
-      by Nothing e = omega arith
+      by : (r : Option ℕ) → sought ≡ r → from_one r ≤ m
+      by (Some j) e = omega (arith, (found_tells (delete_file_at run positions) (deletes_in s file) m refl e).0)
+      by None e = omega arith
 
 pub length-listed : (ds : List (Versioned DeleteFile)) (s : ℕ) (f : Versioned DataFile) → length (listed ds s f) ≡ listed_size
 unfolding listed
 length-listed ds s f = refl
 
 -- the files that are read, by one test
-pub read_both : (q : Filter) (xs : List Statistics) (fs : List (Versioned DataFile)) (s table : ℕ) → files_read q xs fs s table ≡ filter (is_read q xs table s) fs
+pub read_both : (q : Option Filter) (xs : List Statistics) (fs : List (Versioned DataFile)) (s table : ℕ) → files_read q xs fs s table ≡ filter (is_read q xs table s) fs
 unfolding data_files_at
 read_both q xs fs s table = filter_both (passes q xs) (in_table table s) fs
 
@@ -101,7 +100,7 @@ module _ (files run places : List ℕ) (n m s : ℕ) (F : DeleteFilesFound files
       ap (λ d. (data_file_at files k).id ∷ d ∷ []) (ap (delete_id_at run) (F.found k h positions) ∙ sym (delete_id_is run positions m s (data_file_at files k).id))
 
 -- the loop that lays the words of the files that are read
-module _ (files run statistics : List ℕ) (n m u table s : ℕ) (q : Filter) where
+module _ (files run statistics : List ℕ) (n m u table s : ℕ) (q : Option Filter) where
   abbrev test : Versioned DataFile → Bool
   test = is_read q (statistics_in statistics u) table s
 

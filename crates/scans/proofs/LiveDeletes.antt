@@ -1,5 +1,6 @@
 -- The pass from the last delete file to the first: what it has found is the first from the present one on. And what the place found tells of a
 -- data file's delete files.
+use Rattle.std.specs.Prelude.{None, Option, Some}
 use Prim.Native.Nat.{ℕ, ◌+◌, ◌≤◌, ◌<◌}
 use mathlib.Core.Path.{◌≡◌, refl, sym, ap, ◌∙◌}
 use mathlib.Core.Bool.{Bool, true, false, ◌&&◌, and-false}
@@ -10,8 +11,6 @@ use lib.Dec.{eqb}
 use lib.ListN.{length, get_or}
 use lib.Seq.{get_or-set_same, get_or-set_other}
 use borrow.Author.Tests.{eq-eqb, ne_eqb as ne, eqb-true, eqb-false}
-use Rattle.lists.specs.declared.Found.{Found}
-use Rattle.lists.specs.declared.Found.TheVariants.{At, Nothing}
 use Rattle.lists.specs.Lists.{chained, place}
 use Rattle.lists.specs.Runs.{from, field, fields, at}
 use Rattle.lists.proofs.Tests.{if, clash}
@@ -77,23 +76,23 @@ module _ (files : List ℕ) (n : ℕ) (run : List ℕ) (m s : ℕ) where
         abbrev Goal : List ℕ → Type 0
         Goal w = get_or w k 0 ≡ from_one (place (deletes_in s (data_file_at files k).id) j (from (delete_file_at run positions) j m))
 
-        same : x ≡ key k → (r : Found) → Placed key (λ y. eqb y x) 0 (0 + n) r → Goal (set_at r places i)
+        same : x ≡ key k → (r : Option ℕ) → Placed key (λ y. eqb y x) 0 (0 + n) r → Goal (set_at r places i)
         unfolding field
-        same o (At z) p =
+        same o (Some z) p =
             let there : z ≡ k = ascending_one key n asc z k (omega (arith, p.1)) g (eqb-true (key z) x p.2 ∙ o) in
             rw there
             (get_or-set_same places k i 0 (omega arith) ∙ (q ∙ (add-one j
             ∙ ap from_one (sym (place_hit (delete_file_at run positions) (deletes_in s (data_file_at files k).id) j m h (passes k positions ∙ rw (t, ← d, o, eq-eqb (key k) (key k) refl) refl))))))
-        same o Nothing p = clash (eq-eqb (key k) x (sym o)) (p k (omega arith) (omega arith))
+        same o None p = clash (eq-eqb (key k) x (sym o)) (p k (omega arith) (omega arith))
 
-        other : (x ≡ key k → ⊥) → (r : Found) → Placed key (λ y. eqb y x) 0 (0 + n) r → Goal (set_at r places i)
+        other : (x ≡ key k → ⊥) → (r : Option ℕ) → Placed key (λ y. eqb y x) 0 (0 + n) r → Goal (set_at r places i)
         unfolding field
-        other o (At z) p =
+        other o (Some z) p =
             get_or-set_other places z k i 0 (λ (c : k ≡ z). o (rw c (sym (eqb-true (key z) x p.2)))) ∙ not_it
           where
             not_it : Goal places
             not_it = missed k g positions (passes k positions ∙ rw (← d) (rw (ne x (key k) o) refl))
-        other o Nothing p = missed k g positions (passes k positions ∙ rw (← d) (rw (ne x (key k) o) refl))
+        other o None p = missed k g positions (passes k positions ∙ rw (← d) (rw (ne x (key k) o) refl))
 
       pub found_live : {w : List ℕ} → w ≡ set_at (place_of data_file_size data_file_id_word files n x) places i → FoundFrom w j
       found_live {w} u k g positions =

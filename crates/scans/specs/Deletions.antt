@@ -1,7 +1,5 @@
 -- The delete file of a data file at a snapshot, by its place.
-use Rattle.std.specs.Prelude.{ℕ, zero, suc, ◌*◌, ◌≤◌, ◌<◌, ◌≡◌, Bool, ◌&&◌, List, eqb, length, get_or, set}
-use Rattle.lists.specs.declared.Found.{Found}
-use Rattle.lists.specs.declared.Found.TheVariants.{At, Nothing}
+use Rattle.std.specs.Prelude.{ℕ, zero, suc, ◌*◌, ◌≤◌, ◌<◌, ◌≡◌, Bool, ◌&&◌, List, eqb, length, get_or, set, None, Option, Some}
 use Rattle.lists.specs.Lists.{place}
 use Rattle.lists.specs.Runs.{at}
 use Rattle.layout.specs.Fields.{delete_file_size}
@@ -12,18 +10,18 @@ use Rattle.ducklake.specs.Liveness.{live}
 use Rattle.lookup.specs.Order.{DataFilesById}
 
 -- a number set at a place that was found
-abbrev pub set_at : Found → List ℕ → ℕ → List ℕ
-set_at (At k) xs x = set xs k x
-set_at Nothing xs x = xs
+abbrev pub set_at : Option ℕ → List ℕ → ℕ → List ℕ
+set_at (Some k) xs x = set xs k x
+set_at None xs x = xs
 
 -- a delete file of the data file, live at s
 abbrev pub deletes_in : ℕ → ℕ → Versioned DeleteFile → Bool
 deletes_in s file d = eqb d.body.data_file file && live s d
 
 -- a place counted from 1, or 0
-abbrev pub from_one : Found → ℕ
-from_one (At j) = suc j
-from_one Nothing = 0
+abbrev pub from_one : Option ℕ → ℕ
+from_one (Some j) = suc j
+from_one None = 0
 
 -- n data files, m delete files, and a number for each data file, all 0
 pub record DeleteFilesSought (files : List ℕ) (n : ℕ) (run : List ℕ) (m : ℕ) (places : List ℕ) : Type 0 where

@@ -5,11 +5,11 @@ ghost use Rattle.scans.specs.Deletions.{set_at, DeleteFilesSought, DeleteFilesFo
 
 use layout::number::{FileId, SnapshotId, TABLE_LIMIT};
 use layout::record::{DataFileRecord, DeleteFileRecord};
-use lists::Found;
 use lookup::find::find_data_file_near;
 use lookup::life::{is_live, life_at};
 use records::delete_file::delete_file_data_file;
-use runs::hints::{fill_hints, hint};
+use runs::fields::Fields;
+use runs::hints::fill_hints;
 
 // Four hints for each place of a full table.
 pub const HINTS: usize = 4 * TABLE_LIMIT;
@@ -26,17 +26,14 @@ fn set_at_data_file(
     requires { DataFilesById data_files.now n × (n ≤ length numbers.old) }
     ensures { numbers.new ≡ set_at (place_of data_file_size data_file_id_word data_files.now n id.0) numbers.old x }
 {
-    let found = find_data_file_near(data_files, n, id, near);
-    match found {
-        Found::At(k) => {
-            numbers[k] = x;
-        }
-        Found::Nothing => {}
+    if let Some(k) = find_data_file_near(data_files, n, id, near) {
+        numbers[k] = x;
     }
 }
 
 // For each data file the place, counted from 1, of its delete file that is live at s, or 0: from the last delete file to the first, so that the
 // first one of a data file stays.
+// Stays: no Option in the array, since memory is fixed, and an Option<usize> for each place of a full table takes twice as much.
 pub fn find_live_delete_files(
     data_files: &[u64],
     n: usize,
@@ -49,17 +46,14 @@ pub fn find_live_delete_files(
     ensures { DeleteFilesFound data_files.now n delete_files.now m s.0 places.new }
 {
     let mut hints = [0u16; HINTS];
-    let scale = fill_hints(
-        data_files,
-        DataFileRecord::SIZE,
-        DataFileRecord::ID,
+    let ids = Fields {
+        words: data_files,
+        size: DataFileRecord::SIZE,
+        at: DataFileRecord::ID,
         n,
-        &mut hints,
-    );
-    let mut j = m;
-    while 0 < j {
-        let place = j;
-        j -= 1;
+    };
+    let scale = fill_hints(ids, &mut hints);
+    for j in (0..m).rev() {
         let file = delete_file_data_file(delete_files, j);
         let l = life_at(
             delete_files,
@@ -69,8 +63,8 @@ pub fn find_live_delete_files(
         );
         let live = is_live(l, s);
         if live {
-            let near = hint(scale, &hints, file.0);
-            set_at_data_file(data_files, n, file, near, places, place);
+            let near = scale.hint(&hints, file.0);
+            set_at_data_file(data_files, n, file, near, places, j + 1);
         }
     }
 }

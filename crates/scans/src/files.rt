@@ -13,16 +13,16 @@ ghost use Rattle.scans.specs.Readable.{FilesSelectable, FilesReadable};
 
 use crate::deletions::{HINTS, find_live_delete_files};
 use crate::filter::{Filter, file_passes, fill_filter_hints};
-use layout::number::{ABSENT, CatalogId, FileId, SnapshotId, TABLE_LIMIT};
-use layout::outcome::{ACCEPTED, Counts, Outcome, SHORT_ANSWER_AREA};
+use layout::number::{CatalogId, FileId, SnapshotId, TABLE_LIMIT};
+use layout::outcome::{Counts, Outcome};
 use layout::record::DataFileRecord;
+use layout::refusal::Refusal;
 use lookup::life::{is_live, life_at};
-use readings::answer::Answer;
 use readings::table::refuse_table;
 use records::data_file::{data_file_id, data_file_table};
 use records::delete_file::delete_file_id;
 use refusals::checked::Checked;
-use runs::hints::{Scale, hint};
+use runs::hints::Scale;
 
 // A file list has so many words a file: the file's id, and the delete file's or ABSENT.
 const LISTED_SIZE: usize = 2;
@@ -35,7 +35,7 @@ pub fn is_in_table(data_files: &[u64], i: usize, table: CatalogId, s: SnapshotId
     let holder = data_file_table(data_files, i);
     let l = life_at(data_files, DataFileRecord::SIZE, DataFileRecord::BEGIN, i);
     let live = is_live(l, s);
-    (holder.0 == table.0) & live
+    (holder == table) & live
 }
 
 // Whether it is one that the filter keeps, too. The hints tell where its statistics may be.
@@ -48,17 +48,16 @@ fn is_read(
     hints: &[u16],
     table: CatalogId,
     s: SnapshotId,
-    filter: Filter,
+    filter: Option<Filter>,
 ) -> bool
-    requires { FilesSelectable data_files.now (i + 1) statistics.now q × (scale.shift < 64) }
+    requires { FilesSelectable data_files.now (i + 1) statistics.now q }
     ensures { result ≡ is_read filter (statistics_in statistics.now q) table.0 s.0 (data_file_at data_files.now i) }
 {
-    let there = is_in_table(data_files, i, table, s);
-    if !there {
+    if !is_in_table(data_files, i, table, s) {
         return false;
     }
     let id = data_file_id(data_files, i);
-    let near = hint(scale, hints, id.0);
+    let near = scale.hint(hints, id.0);
     file_passes(statistics, q, id, near, filter)
 }
 
@@ -72,18 +71,15 @@ fn count_files(
     hints: &[u16],
     table: CatalogId,
     s: SnapshotId,
-    filter: Filter,
+    filter: Option<Filter>,
 ) -> usize
-    requires { FilesSelectable data_files.now n statistics.now q × (scale.shift < 64) }
+    requires { FilesSelectable data_files.now n statistics.now q }
     ensures { (result ≤ n)
         × (result ≡ length (files_read filter (statistics_in statistics.now q) (data_files_in data_files.now n) s.0 table.0)) }
 {
     let mut k: usize = 0;
-    let mut i: usize = 0;
-    while i < n {
-        let read = is_read(data_files, i, statistics, q, scale, hints, table, s, filter);
-        i += 1;
-        if read {
+    for i in 0..n {
+        if is_read(data_files, i, statistics, q, scale, hints, table, s, filter) {
             k += 1;
         }
     }
@@ -96,7 +92,7 @@ fn delete_id(delete_files: &[u64], place: usize) -> FileId
     ensures { result.0 ≡ delete_id_at delete_files.now place }
 {
     if place == 0 {
-        return FileId(ABSENT);
+        return FileId::ABSENT;
     }
     delete_file_id(delete_files, place - 1)
 }
@@ -134,11 +130,11 @@ fn list_files(
     places: &[usize],
     table: CatalogId,
     s: SnapshotId,
-    filter: Filter,
+    filter: Option<Filter>,
     area: &mut [u64],
 )
     requires files_selectable { FilesSelectable data_files.now n statistics.now q × DeleteFilesFound data_files.now n delete_files.now m s.0 places.now
-        × (delete_file_size * m ≤ length delete_files.now) × (scale.shift < 64) }
+        × (delete_file_size * m ≤ length delete_files.now) }
     requires table_in_bounds { listed_size * length (files_read filter (statistics_in statistics.now q) (data_files_in data_files.now n) s.0 table.0)
         ≤ length area.old }
     ensures { (positions : List ℕ) → area.new ≡ overwrite area.old 0
@@ -146,15 +142,9 @@ fn list_files(
         (files_read filter (statistics_in statistics.now q) (data_files_in data_files.now n) s.0 table.0)) }
 {
     let mut k: usize = 0;
-    let mut i: usize = 0;
-    while i < n {
-        let at = i;
-        let read = is_read(
-            data_files, at, statistics, q, scale, hints, table, s, filter,
-        );
-        i += 1;
-        if read {
-            write_listed(data_files, at, delete_files, places[at], area, k);
+    for i in 0..n {
+        if is_read(data_files, i, statistics, q, scale, hints, table, s, filter) {
+            write_listed(data_files, i, delete_files, places[i], area, k);
             k += LISTED_SIZE;
         }
     }
@@ -168,9 +158,9 @@ pub fn read_files(
     counts: Counts,
     table: CatalogId,
     s: SnapshotId,
-    filter: Filter,
+    filter: Option<Filter>,
     area: &mut [u64],
-) -> Answer
+) -> Result<usize, Refusal>
     requires { FilesReadable data_files.now delete_files.now statistics.now counts }
     ensures { (positions : List ℕ) → Answered
         (flat_map (listed (delete_files_in delete_files.now positions counts.delete_files) s.0)
@@ -188,10 +178,7 @@ pub fn read_files(
     );
     let length = LISTED_SIZE * k;
     if area.len() < length {
-        return Answer {
-            number: SHORT_ANSWER_AREA,
-            length: 0,
-        };
+        return Err(Refusal::ShortAnswerArea);
     }
     let mut places = [0usize; TABLE_LIMIT];
     find_live_delete_files(data_files, n, delete_files, m, s, &mut places);
@@ -210,10 +197,7 @@ pub fn read_files(
         filter,
         area,
     );
-    Answer {
-        number: ACCEPTED,
-        length,
-    }
+    Ok(length)
 }
 
 // The files of a table at a retained snapshot, of tables that were checked.
@@ -234,14 +218,8 @@ pub fn list_table_files(
         statistics.now counts)
         → Promise (perform_reading (query_at s.0 (Query.files table.0)) l.words counts area.old) result l.words area.new }
 {
-    let number = refuse_table(checked, snapshots, tables, counts, table, s);
-    if number != ACCEPTED {
-        return Outcome {
-            number,
-            place: 0,
-            length: 0,
-            counts,
-        };
+    if let Err(refusal) = refuse_table(checked, snapshots, tables, counts, table, s) {
+        return Outcome::refused(refusal, counts);
     }
     let answer = read_files(
         data_files,
@@ -250,13 +228,8 @@ pub fn list_table_files(
         counts,
         table,
         s,
-        Filter::Every,
+        None,
         area,
     );
-    Outcome {
-        number: answer.number,
-        place: 0,
-        length: answer.length,
-        counts,
-    }
+    Outcome::answered(answer, counts)
 }

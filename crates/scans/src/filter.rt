@@ -1,4 +1,4 @@
-ghost use Rattle.std.specs.Prelude.{◌≡◌, ◌<◌};
+ghost use Rattle.std.specs.Prelude.{◌≡◌};
 ghost use Rattle.layout.specs.Catalog.{Versioned, DataFile, statistics_of};
 ghost use Rattle.layout.specs.Words.{statistics_in};
 ghost use Rattle.ducklake.specs.Readings.{admits, kept};
@@ -10,13 +10,14 @@ use layout::number::FileId;
 use layout::record::StatisticsRecord;
 use lookup::block::statistics_near;
 use records::statistics::statistics_at;
+use runs::fields::Fields;
 use runs::hints::{Scale, fill_hints};
 
-// Which files a list keeps: every one, or those that may hold a row with `column = scalar`.
+// Keeps the files that may hold a row with `column = scalar`. A list without a filter keeps every one.
 #[derive(Clone, Copy)]
-pub enum Filter {
-    Every,
-    Equal(u64, i64),
+pub struct Filter {
+    pub column: u64,
+    pub scalar: i64,
 }
 
 // Whether the bounds of a statistics record admit the scalar.
@@ -41,15 +42,12 @@ fn file_admits(
     ensures { (f : Versioned DataFile) → f.id ≡ data_file.0 → result ≡ kept (statistics_in statistics.now n) column scalar f }
 {
     let block = statistics_near(statistics, n, data_file, near);
-    let end = block.end;
-    let mut i = block.start;
-    while i < end {
+    for i in block.start..block.end {
         let x = statistics_at(statistics, i);
         let admitted = record_admits(x, scalar);
         if (x.column == column) & admitted {
             return true;
         }
-        i += 1;
     }
     false
 }
@@ -60,34 +58,36 @@ pub fn file_passes(
     n: usize,
     data_file: FileId,
     near: usize,
-    filter: Filter,
+    filter: Option<Filter>,
 ) -> bool
     requires { StatisticsByFile statistics.now n }
     ensures { (f : Versioned DataFile) → f.id ≡ data_file.0 → result ≡ passes filter (statistics_in statistics.now n) f }
 {
     match filter {
-        Filter::Every => true,
-        Filter::Equal(column, scalar) => {
-            file_admits(statistics, n, data_file, near, column, scalar)
-        }
+        Some(q) => file_admits(statistics, n, data_file, near, q.column, q.scalar),
+        None => true,
     }
 }
 
 // Writes where the statistics of data files may be, for a filter that looks at them.
-pub fn fill_filter_hints(statistics: &[u64], n: usize, filter: Filter, hints: &mut [u16]) -> Scale
+pub fn fill_filter_hints(
+    statistics: &[u64],
+    n: usize,
+    filter: Option<Filter>,
+    hints: &mut [u16],
+) -> Scale
     requires { StatisticsByFile statistics.now n }
-    ensures { result.shift < 64 }
 {
     match filter {
-        Filter::Every => Scale { first: 0, shift: 0 },
-        Filter::Equal(_, _) => {
-            fill_hints(
-                statistics,
-                StatisticsRecord::SIZE,
-                StatisticsRecord::DATA_FILE,
+        Some(_) => {
+            let of_files = Fields {
+                words: statistics,
+                size: StatisticsRecord::SIZE,
+                at: StatisticsRecord::DATA_FILE,
                 n,
-                hints,
-            )
+            };
+            fill_hints(of_files, hints)
         }
+        None => Scale { first: 0, shift: 0 },
     }
 }

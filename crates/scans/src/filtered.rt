@@ -1,4 +1,5 @@
 ghost use Rattle.std.specs.Prelude.{◌≡◌, List, ℕ, ℤ};
+ghost use Rattle.layout.specs.Refusals.{number_of};
 ghost use Rattle.layout.specs.Words.{columns_in};
 ghost use Rattle.ducklake.specs.Liveness.{column_live};
 ghost use Rattle.ducklake.specs.Readings.{Query};
@@ -11,14 +12,15 @@ ghost use Rattle.scans.specs.Lent.{FilteredLent};
 use crate::files::read_files;
 use crate::filter::Filter;
 use layout::number::{CatalogId, SnapshotId};
-use layout::outcome::{ACCEPTED, Counts, NOT_LIVE, NOT_RETAINED, NOT_SOUND, Outcome};
+use layout::outcome::{Counts, Outcome};
 use layout::record::ColumnRecord;
+use layout::refusal::Refusal;
 use lookup::block::columns_of;
 use lookup::life::{is_live, life_at};
 use lookup::live::{is_retained, table_is_live};
 use records::column::column_id;
 use refusals::checked::Checked;
-use refusals::first::first_refusal;
+use refusals::first::first_refused;
 
 // Whether a column of the table is live at s.
 fn column_is_live(columns: &[u64], n: usize, table: CatalogId, column: u64, s: SnapshotId) -> bool
@@ -26,21 +28,18 @@ fn column_is_live(columns: &[u64], n: usize, table: CatalogId, column: u64, s: S
     ensures { (names : List ℕ) → result ≡ column_live (columns_in columns.now names n) s.0 table.0 column }
 {
     let block = columns_of(columns, n, table);
-    let end = block.end;
-    let mut i = block.start;
-    while i < end {
+    for i in block.start..block.end {
         let id = column_id(columns, i);
         let l = life_at(columns, ColumnRecord::SIZE, ColumnRecord::BEGIN, i);
         let live = is_live(l, s);
         if (id == column) & live {
             return true;
         }
-        i += 1;
     }
     false
 }
 
-// The number of a reading filtered by a column, before its answer's length is known: the table is judged first, then the column.
+// The refusal of a reading filtered by a column, before its answer's length is known: the table is judged first, then the column.
 fn refuse_column(
     checked: Checked,
     snapshots: &[u64],
@@ -50,20 +49,22 @@ fn refuse_column(
     table: CatalogId,
     column: u64,
     s: SnapshotId,
-) -> u64
+) -> Result<(), Refusal>
     requires { ColumnsLent checked snapshots.now tables.now columns.now counts }
     ensures { (l : ColumnsLent checked snapshots.now tables.now columns.now counts)
-        → (scalar : ℤ) → result ≡ unanswered l.words counts (query_at s.0 (Query.filtered_files table.0 column scalar)) }
+        → (scalar : ℤ) → number_of result ≡ unanswered l.words counts (query_at s.0 (Query.filtered_files table.0 column scalar)) }
 {
     if !checked.sound {
-        return NOT_SOUND;
+        return Err(Refusal::NotSound);
     }
     let there = is_retained(snapshots, counts.snapshots, s);
     let live = table_is_live(tables, counts.tables, table, s);
     let known = column_is_live(columns, counts.columns, table, column, s);
-    let numbers = [NOT_RETAINED, NOT_LIVE, NOT_LIVE];
-    let passed = [there, live, known];
-    first_refusal(&numbers, &passed)
+    first_refused(&[
+        (there, Refusal::NotRetained),
+        (live, Refusal::NotLive),
+        (known, Refusal::NotLive),
+    ])
 }
 
 // The files of a table at a retained snapshot that its statistics keep for `column = scalar`, of tables that were checked.
@@ -88,16 +89,10 @@ pub fn list_filtered_files(
         → Promise (perform_reading (query_at s.0 (Query.filtered_files table.0 column scalar)) l.words counts area.old)
         result l.words area.new }
 {
-    let number = refuse_column(
+    if let Err(refusal) = refuse_column(
         checked, snapshots, tables, columns, counts, table, column, s,
-    );
-    if number != ACCEPTED {
-        return Outcome {
-            number,
-            place: 0,
-            length: 0,
-            counts,
-        };
+    ) {
+        return Outcome::refused(refusal, counts);
     }
     let answer = read_files(
         data_files,
@@ -106,13 +101,8 @@ pub fn list_filtered_files(
         counts,
         table,
         s,
-        Filter::Equal(column, scalar),
+        Some(Filter { column, scalar }),
         area,
     );
-    Outcome {
-        number: answer.number,
-        place: 0,
-        length: answer.length,
-        counts,
-    }
+    Outcome::answered(answer, counts)
 }

@@ -5,7 +5,7 @@ ghost use Rattle.schema_creation.specs.Lent.{CreateSchemaLent, create_schema_lea
 
 use crate::refuse::{ONE_SCHEMA, refuse_create_schema};
 use crate::write::write_create_schema;
-use layout::outcome::{ACCEPTED, Counts, Outcome, Terms};
+use layout::outcome::{Counts, Outcome, Terms};
 use refusals::checked::Checked;
 use refusals::room::counts_after;
 
@@ -24,7 +24,7 @@ pub fn create_schema(
         → Promise (perform (commit_at terms (create_schema name.now)) l.words counts area) result
         (create_schema_leaves l.words snapshots.new schemas.new schema_names.new) area }
 {
-    let number = refuse_create_schema(
+    if let Err(refusal) = refuse_create_schema(
         checked,
         snapshots,
         schemas,
@@ -32,21 +32,10 @@ pub fn create_schema(
         counts,
         terms,
         name,
-    );
-    if number != ACCEPTED {
-        return Outcome {
-            number,
-            place: 0,
-            length: 0,
-            counts,
-        };
+    ) {
+        return Outcome::refused(refusal, counts);
     }
     write_create_schema(snapshots, schemas, schema_names, counts, terms, name);
     let after = counts_after(counts, ONE_SCHEMA);
-    Outcome {
-        number: ACCEPTED,
-        place: 0,
-        length: 0,
-        counts: after,
-    }
+    Outcome::accepted(0, after)
 }

@@ -1,5 +1,6 @@
 ghost use Rattle.std.specs.Prelude.{◌≡◌, true, ℕ};
 ghost use Rattle.layout.specs.Fields.{schema_size};
+ghost use Rattle.layout.specs.Refusals.{number_of};
 ghost use Rattle.layout.specs.Words.{Words};
 ghost use Rattle.ducklake.specs.Commits.{create_schema};
 ghost use Rattle.ducklake.specs.Calls.{commit_at, refusal};
@@ -10,14 +11,13 @@ ghost use Rattle.commits.specs.LentRecords.{WithNames};
 use commits::name::schema_name_is_free;
 use commits::number::{next_snapshot, snapshot_fits};
 use commits::time::is_in_time;
-use layout::outcome::{
-    BAD_NAME, Counts, NAME_TAKEN, NO_ROOM, NOT_SOUND, NUMBER_TOO_LARGE, TIME_FALLS, Terms,
-};
+use layout::outcome::{Counts, Terms};
 use layout::record::CREATED_SCHEMA;
+use layout::refusal::Refusal;
 use lookup::find::latest_snapshot;
 use names::is_name_argument;
 use refusals::checked::Checked;
-use refusals::first::first_refusal;
+use refusals::first::first_refused;
 use refusals::room::has_room;
 
 // What 'create schema' adds.
@@ -33,7 +33,7 @@ pub const ONE_SCHEMA: Counts = Counts {
     scheduled: 0,
 };
 
-// The number of 'create schema' on tables that were checked: of its tests, in the definition's order, the first that isn't passed.
+// The refusal of 'create schema' on tables that were checked: of its tests, in the definition's order, the first that isn't passed.
 pub fn refuse_create_schema(
     checked: Checked,
     snapshots: &[u64],
@@ -42,15 +42,15 @@ pub fn refuse_create_schema(
     counts: Counts,
     terms: Terms,
     name: &[u8],
-) -> u64
+) -> Result<(), Refusal>
     requires { checked.sound ≡ true
         → HasLatest snapshots.now counts.snapshots × WithNames schema_size schemas.now schema_names.now counts.schemas }
     ensures { (w : Words) → w.snapshots ≡ snapshots.now → w.schemas ≡ schemas.now
         → w.schema_names ≡ schema_names.now → checked ≡ checked_of w counts
-        → (m : ℕ) → result ≡ refusal w counts m (commit_at terms (create_schema name.now)) }
+        → (m : ℕ) → number_of result ≡ refusal w counts m (commit_at terms (create_schema name.now)) }
 {
     if !checked.sound {
-        return NOT_SOUND;
+        return Err(Refusal::NotSound);
     }
     let latest = latest_snapshot(snapshots, counts.snapshots);
     let in_time = is_in_time(latest, terms.time);
@@ -66,7 +66,11 @@ pub fn refuse_create_schema(
     );
     let fits = snapshot_fits(next);
     let room = has_room(checked.room, counts, ONE_SCHEMA);
-    let numbers = [TIME_FALLS, BAD_NAME, NAME_TAKEN, NUMBER_TOO_LARGE, NO_ROOM];
-    let passed = [in_time, named, free, fits, room];
-    first_refusal(&numbers, &passed)
+    first_refused(&[
+        (in_time, Refusal::TimeFalls),
+        (named, Refusal::BadName),
+        (free, Refusal::NameTaken),
+        (fits, Refusal::NumberTooLarge),
+        (room, Refusal::NoRoom),
+    ])
 }

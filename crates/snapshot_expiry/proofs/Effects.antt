@@ -19,11 +19,9 @@ use Rattle.call_laws.specs.Writes.{extend_table}
 use Rattle.call_laws.proofs.Expiry.{scheduled_files, Expired, expire_words, expire_counts, expire_room}
 use Rattle.call_laws.proofs.Ready.{Ready, ready}
 use Rattle.call_laws.proofs.Refusals.{AcceptedCall, accepted_call}
-use Rattle.expiry.specs.Remaining.{ids_in, Expirable, RemainingIds, snapshot_stays}
+use Rattle.expiry.specs.Remaining.{ids_left, Expirable, snapshot_stays}
 use Rattle.expiry.proofs.Expirable.{expirable, schema_versions, table_versions, column_versions, files, located, statistics_of_files}
 use Rattle.expiry.proofs.Retained.{kept, files_scheduled}
-use Rattle.snapshot_expiry.specs.declared.definitions.DefinitionCounts.{DefinitionCounts}
-use Rattle.snapshot_expiry.specs.declared.files.FileCounts.{FileCounts}
 use Rattle.snapshot_expiry.specs.Written.{DefinitionsLent, DefinitionsLeft, FilesLent, FilesLeft}
 
 -- an expiry that is not refused: its answer is empty, so that no area is too short
@@ -36,7 +34,7 @@ pub record ExpiryWritten (w : Words) (c : Counts) (ids : List ℕ) (time : ℕ) 
   pub words : w' ≡ store w c (effect (load w c) (expire_snapshots ids time))
 
 -- the counts together
-abbrev together : ℕ → DefinitionCounts → FileCounts → Counts
+abbrev together : ℕ → Counts → Counts → Counts
 together n d f = record {
   snapshots = n;
   schemas = d.schemas;
@@ -63,22 +61,22 @@ module _ (w : Words) (c : Counts) (ids : List ℕ) (time : ℕ) (h : NotRefused 
   unfolding effect capacity
   scheduled_room = omega (arith, leb-true (c.scheduled + length (scheduled_files w c ids time)) (capacity w).scheduled (expire_room w c ids time call.fits refl ∙ call.room))
 
-  module _ {left : List ℕ} {m : ℕ} (L : RemainingIds w.snapshots c.snapshots ids left m) where
-    pub definitions_lent : DefinitionsLent w.schemas w.schema_names w.tables w.table_names w.columns w.column_names c left m
-    definitions_lent = record { schemas = schema_versions tables_ready L.by_id; tables = table_versions tables_ready L.by_id; columns = column_versions tables_ready L.by_id }
+  pub definitions_lent : DefinitionsLent w.schemas w.schema_names w.tables w.table_names w.columns w.column_names c
+  definitions_lent = record { schemas = schema_versions tables_ready; tables = table_versions tables_ready; columns = column_versions tables_ready }
 
-    pub files_lent : FilesLent w.data_files w.delete_files w.positions w.statistics w.scheduled c left m time
+  module _ {left : List ℕ} (L : left ≡ ids_left w.snapshots c.snapshots ids) where
+    pub files_lent : FilesLent w.data_files w.delete_files w.positions w.statistics w.scheduled c left time
     files_lent = record {
-      files = files tables_ready L.by_id;
-      located = located tables_ready L.by_id;
-      statistics = statistics_of_files tables_ready L.by_id;
+      files = files tables_ready;
+      located = located tables_ready;
+      statistics = statistics_of_files tables_ready;
       room = rw (files_scheduled w c ids time L) scheduled_room;
     }
 
-    module _ (n : ℕ) {w' : Words} {d : DefinitionCounts} {f : FileCounts}
+    module _ (n : ℕ) {w' : Words} {d : Counts} {f : Counts}
         (N : Compacted (row_pieces snapshot_size) (snapshot_stays w.snapshots ids) c.snapshots w.snapshots (snapshot_size * n) w'.snapshots)
-        (D : DefinitionsLeft w.schemas w.schema_names w.tables w.table_names w.columns w.column_names c (ids_in left m) d w'.schemas w'.schema_names w'.tables w'.table_names w'.columns w'.column_names)
-        (F : FilesLeft w.data_files w.delete_files w.positions w.statistics w.scheduled c (ids_in left m) time f w'.data_files w'.delete_files w'.positions w'.statistics w'.scheduled) where
+        (D : DefinitionsLeft w.schemas w.schema_names w.tables w.table_names w.columns w.column_names c left d w'.schemas w'.schema_names w'.tables w'.table_names w'.columns w'.column_names)
+        (F : FilesLeft w.data_files w.delete_files w.positions w.statistics w.scheduled c left time f w'.data_files w'.delete_files w'.positions w'.statistics w'.scheduled) where
       expired : Expired w c ids time (kept w c ids time L) w' (together n d f)
       unfolding kept
       expired = record {

@@ -6,10 +6,10 @@ ghost use Rattle.refusals.specs.Checked.{checked_of};
 use crate::definitions::expire_definitions;
 use crate::files::expire_files;
 use expiry::refuse::refuse_expiry;
-use expiry::remaining::remaining_ids;
+use expiry::remaining::Remaining;
 use expiry::table::expire_listed;
 use layout::number::TABLE_LIMIT;
-use layout::outcome::{ACCEPTED, Counts, Outcome};
+use layout::outcome::{Counts, Outcome};
 use refusals::checked::Checked;
 
 // Expiry on tables that were checked: refused, or written.
@@ -40,17 +40,11 @@ pub fn expire_snapshots(
         (at_exit snapshots schemas schema_names tables table_names columns column_names data_files delete_files positions statistics scheduled)
         area }
 {
-    let number = refuse_expiry(checked, snapshots, data_files, delete_files, counts, ids);
-    if number != ACCEPTED {
-        return Outcome {
-            number,
-            place: 0,
-            length: 0,
-            counts,
-        };
+    if let Err(refusal) = refuse_expiry(checked, snapshots, data_files, delete_files, counts, ids) {
+        return Outcome::refused(refusal, counts);
     }
     let mut left = [0u64; TABLE_LIMIT];
-    let m = remaining_ids(snapshots, counts.snapshots, ids, &mut left);
+    let left = Remaining::unlisted(snapshots, counts.snapshots, ids, &mut left);
     let n = expire_listed(snapshots, counts.snapshots, ids);
     let d = expire_definitions(
         schemas,
@@ -60,8 +54,7 @@ pub fn expire_snapshots(
         columns,
         column_names,
         counts,
-        &left,
-        m,
+        left,
     );
     let f = expire_files(
         data_files,
@@ -70,8 +63,7 @@ pub fn expire_snapshots(
         statistics,
         scheduled,
         counts,
-        &left,
-        m,
+        left,
         time,
     );
     let after = Counts {
@@ -85,10 +77,5 @@ pub fn expire_snapshots(
         statistics: f.statistics,
         scheduled: f.scheduled,
     };
-    Outcome {
-        number: ACCEPTED,
-        place: 0,
-        length: 0,
-        counts: after,
-    }
+    Outcome::accepted(0, after)
 }

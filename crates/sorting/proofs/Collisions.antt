@@ -12,7 +12,9 @@ use Rattle.lists.proofs.Loops.{from_step, from_end, from_all}
 use Rattle.lists.proofs.Runs.{overwrite_none}
 use Rattle.lists.proofs.Windows.{overwrite_next}
 use Rattle.lists.proofs.Selections.{map-append, all_map}
-use Rattle.sorting.specs.Keys.{same_key, Keyed}
+use Rattle.sorting.specs.declared.colliding.Round.{Round}
+use Rattle.sorting.specs.declared.colliding.Round.TheVariants.{First}
+use Rattle.sorting.specs.Keys.{Keyed}
 use Rattle.sorting.specs.Colliding.{same_prefix, half, mixed, digest, hash_limit, hashed, hash_at, pair_hash, Counted, colliding, Hashes, Kept, Thinned}
 use Rattle.sorting.proofs.KeyOrder.{same_words_lem}
 
@@ -25,18 +27,18 @@ mixed_fits f h l g =
     let high : h / half ≤ 4294967295 = omega (arith, g) in
     omega (arith, mul-le-mul_right f low, mul-le-mul_left 4294967295 l, high)
 
-pub digest_next : (second : Bool) (h : ℕ) (f : ℕ → ℕ) (k used : ℕ) {x r : ℕ} → k < used → x ≡ f k → r ≡ (mixed second h + x) % 2 ^ 64
-    → digest second h (from f k used) ≡ digest second r (from f (k + 1) used)
+pub digest_next : (round : Round) (h : ℕ) (f : ℕ → ℕ) (k used : ℕ) {x r : ℕ} → k < used → x ≡ f k → r ≡ (mixed round h + x) % 2 ^ 64
+    → digest round h (from f k used) ≡ digest round r (from f (k + 1) used)
 unfolding digest
-digest_next second h f k used l p e = rw (from_step f k used l, e, p) refl
+digest_next round h f k used l p e = rw (from_step f k used l, e, p) refl
 
-pub digest_end : (second : Bool) (h : ℕ) (f : ℕ → ℕ) (k used : ℕ) → used ≤ k → digest second h (from f k used) ≡ h
+pub digest_end : (round : Round) (h : ℕ) (f : ℕ → ℕ) (k used : ℕ) → used ≤ k → digest round h (from f k used) ≡ h
 unfolding digest
-digest_end second h f k used l = rw (from_end f k used l) refl
+digest_end round h f k used l = rw (from_end f k used l) refl
 
 -- of two words
-pub digest_pair : (size a b : ℕ) (run : List ℕ) (i : ℕ) {x y g h r : ℕ} → x ≡ field size a run i → y ≡ field size b run i → g ≡ (mixed false 0 + x) % 2 ^ 64
-    → h ≡ (mixed false g + y) % 2 ^ 64 → r ≡ hashed false h → r ≡ pair_hash size a b run i
+pub digest_pair : (size a b : ℕ) (run : List ℕ) (i : ℕ) {x y g h r : ℕ} → x ≡ field size a run i → y ≡ field size b run i → g ≡ (mixed First 0 + x) % 2 ^ 64
+    → h ≡ (mixed First g + y) % 2 ^ 64 → r ≡ hashed First h → r ≡ pair_hash size a b run i
 unfolding digest
 digest_pair size a b run i p q d e f = rw (f, e, d, p, q) refl
 
@@ -44,8 +46,8 @@ digest_pair size a b run i p q d e f = rw (f, e, d, p, q) refl
 pub all-below : (f : ℕ → ℕ) (n : ℕ) → ((x : ℕ) → f x < n) → (xs : List ℕ) {ys : List ℕ} → ys ≡ map f xs → all (λ h. ltb h n) ys ≡ true
 all-below f n l xs e = rw (e, all_map) (in_all (λ x. ltb (f x) n) xs (λ x m. lt-ltb (f x) n (l x)))
 
-pub hashes_under : (second : Bool) (used size : ℕ) (run ps : List ℕ) {hashes : List ℕ} → hashes ≡ map (hash_at second used size run) ps → all (λ h. ltb h hash_limit) hashes ≡ true
-hashes_under second used size run ps e = all-below (hash_at second used size run) hash_limit (λ p. omega arith) ps e
+pub hashes_under : (round : Round) (used size : ℕ) (run ps : List ℕ) {hashes : List ℕ} → hashes ≡ map (hash_at round used size run) ps → all (λ h. ltb h hash_limit) hashes ≡ true
+hashes_under round used size run ps e = all-below (hash_at round used size run) hash_limit (λ p. omega arith) ps e
 
 -- hashes below n, each with one of n counts
 pub hashes_below : {hashes counts : List ℕ} (n : ℕ) → length counts ≡ n → all (λ h. ltb h n) hashes ≡ true → Hashes hashes counts
@@ -217,16 +219,12 @@ pub kept_finer : (g hash : ℕ → ℕ) {old new : List ℕ} → Kept (λ p. g (
 kept_finer g hash k = record { decided = λ R s. k.decided R (λ i j d. s i j (λ e. d (ap g e))); within = k.within }
 
 -- two places whose first words agree have one hash
-pub thinned : (second : Bool) (used size : ℕ) (run : List ℕ) {old new : List ℕ} → Kept (hash_at second used size run) old new → Thinned size used run old new
-thinned second used size run k = record {
+pub thinned : (round : Round) (used size : ℕ) (run : List ℕ) {old new : List ℕ} → Kept (hash_at round used size run) old new → Thinned size used run old new
+thinned round used size run k = record {
   decided = λ R s. k.decided R
-      (λ i j d. s i j (if (same_prefix used size run i j) (λ b. absurd (d (ap (λ xs. hashed second (digest second 0 xs)) (same_words_lem _ _ b)))) (λ b. b)));
+      (λ i j d. s i j (if (same_prefix used size run i j) (λ b. absurd (d (ap (λ xs. hashed round (digest round 0 xs)) (same_words_lem _ _ b)))) (λ b. b)));
   within = k.within;
 }
 
 pub thinned_keyed : (size used : ℕ) (run : List ℕ) {a b : List ℕ} → Thinned size used run a b → Keyed size run a → Keyed size run b
 thinned_keyed size used run t h = record { keyed = t.within _ h.keyed }
-
-pub distinct_thinned : (size : ℕ) (run : List ℕ) {a b : List ℕ} → Thinned size size run a b
-    → pairwise (λ i j. not (same_key size run i j)) b ≡ pairwise (λ i j. not (same_key size run i j)) a
-distinct_thinned size run t = t.decided (λ i j. not (same_key size run i j)) (λ i j e. ap not e)

@@ -1,4 +1,5 @@
 pub mod Collisions
+pub mod Deciding
 pub mod Groups
 pub mod KeyOrder
 pub mod Merging

@@ -1,7 +1,9 @@
 -- Hashes of keys; places without those whose hash no other place has.
-use Rattle.std.specs.Prelude.{◌≡◌, ℕ, ◌+◌, ◌*◌, ◌/◌, ◌%◌, ◌^◌, min, Bool, true, false, cond, ltb, List, [], ◌∷◌, length, ◌≢◌, nat_eq, nat_lt, slice_index}
+use Rattle.std.specs.Prelude.{◌≡◌, ℕ, ◌+◌, ◌*◌, ◌/◌, ◌%◌, ◌^◌, min, Bool, true, false, ltb, List, [], ◌∷◌, length, ◌≢◌, nat_eq, nat_lt, slice_index}
 use Rattle.lists.specs.Lists.{all, pairwise, count}
 use Rattle.lists.specs.Runs.{from, field}
+use Rattle.sorting.specs.declared.colliding.Round.{Round}
+use Rattle.sorting.specs.declared.colliding.Round.TheVariants.{First, Second}
 use Rattle.sorting.specs.Keys.{same_words}
 
 -- the first words of a key, and whether those of two keys agree
@@ -15,16 +17,17 @@ same_prefix used size run i j = same_words (prefix_at used size run i) (prefix_a
 abbrev pub half : ℕ
 half = 4294967296
 
-abbrev pub factor : Bool → ℕ
-factor second = cond second 3266489917 2654435769
+abbrev pub factor : Round → ℕ
+factor First = 2654435769
+factor Second = 3266489917
 
-abbrev pub mixed : Bool → ℕ → ℕ
-mixed second h = h % half * factor second + h / half
+abbrev pub mixed : Round → ℕ → ℕ
+mixed round h = h % half * factor round + h / half
 
 -- the digest of words that follow others whose digest is h
-unfoldable pub digest : Bool → ℕ → List ℕ → ℕ
-digest second h [] = h
-digest second h (x ∷ xs) = digest second ((mixed second h + x) % 2 ^ 64) xs
+unfoldable pub digest : Round → ℕ → List ℕ → ℕ
+digest round h [] = h
+digest round h (x ∷ xs) = digest round ((mixed round h + x) % 2 ^ 64) xs
 
 -- a hash is some digits of a digest, mixed once more
 abbrev pub hash_limit : ℕ
@@ -34,18 +37,18 @@ hash_limit = 65536
 abbrev pub some_hashes : ℕ
 some_hashes = 4096
 
-abbrev pub hashed : Bool → ℕ → ℕ
-hashed second h = mixed second h / hash_limit % hash_limit
+abbrev pub hashed : Round → ℕ → ℕ
+hashed round h = mixed round h / hash_limit % hash_limit
 
-abbrev pub hash_at : Bool → ℕ → ℕ → List ℕ → ℕ → ℕ
-hash_at second used size run i = hashed second (digest second 0 (prefix_at used size run i))
+abbrev pub hash_at : Round → ℕ → ℕ → List ℕ → ℕ → ℕ
+hash_at round used size run i = hashed round (digest round 0 (prefix_at used size run i))
 
 -- of a record where it stands: the hash of one word, and that of two
 abbrev pub field_hash : ℕ → ℕ → List ℕ → ℕ → ℕ
 field_hash size at run i = field size at run i % hash_limit
 
 abbrev pub pair_hash : ℕ → ℕ → ℕ → List ℕ → ℕ → ℕ
-pair_hash size a b run i = hashed false (digest false 0 (field size a run i ∷ field size b run i ∷ []))
+pair_hash size a b run i = hashed First (digest First 0 (field size a run i ∷ field size b run i ∷ []))
 
 -- how often each hash occurs, up to twice
 pub record Counted (hashes counts : List ℕ) : Type 0 where

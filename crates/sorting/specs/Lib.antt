@@ -1,3 +1,4 @@
 pub mod Colliding
 pub mod Keys
+pub mod Ordered
 pub mod Sorting

@@ -1,9 +1,10 @@
 ghost use Rattle.std.specs.Prelude.{◌≡◌, ℕ, ◌+◌, ◌*◌, ◌%◌, ◌^◌, ◌<◌, ◌≤◌, true, [], map, length, take, nat_lt};
 ghost use Rattle.lists.specs.Lists.{range, all, filter};
 ghost use Rattle.lists.specs.Runs.{overwrite};
-ghost use Rattle.sorting.specs.Keys.{Keyed};
+ghost use Rattle.sorting.specs.Ordered.{HasKey, Sortable};
 ghost use Rattle.sorting.specs.Colliding.{mixed, hash_limit, some_hashes, hashed, hash_at, field_hash, pair_hash, Counted, colliding, Hashes, Kept, Thinned};
 
+use crate::keys::Keys;
 use runs::fields::field_at;
 use std::num::wrapping_add_u64;
 
@@ -27,62 +28,58 @@ const SOME_HASHES: usize = 4096;
 // So few places are sorted as quickly as hashed.
 const FEW_PLACES: usize = 64;
 
-fn mix(h: u64, second: bool) -> u64
-    ensures { result ≡ mixed second h }
+// Which of the two hashes: places that share the first one may be told apart by the second.
+#[derive(Clone, Copy)]
+pub enum Round {
+    First,
+    Second,
+}
+
+fn mix(h: u64, round: Round) -> u64
+    ensures { result ≡ mixed round h }
 {
-    if second {
-        return h % HALF * SECOND_FACTOR + h / HALF;
-    }
-    h % HALF * FIRST_FACTOR + h / HALF
+    let factor = match round {
+        Round::First => FIRST_FACTOR,
+        Round::Second => SECOND_FACTOR,
+    };
+    h % HALF * factor + h / HALF
 }
 
 // The digest of words that end with x, from the digest of those before it.
-pub fn absorb(h: u64, x: u64, second: bool) -> u64
-    ensures { result ≡ (mixed second h + x) % 2 ^ 64 }
+pub fn absorb(h: u64, x: u64, round: Round) -> u64
+    ensures { result ≡ (mixed round h + x) % 2 ^ 64 }
 {
-    let m = mix(h, second);
+    let m = mix(h, round);
     wrapping_add_u64(m, x)
 }
 
 // The hash of words, from their digest.
-pub fn hash(h: u64, second: bool) -> usize
-    ensures { (result ≡ hashed second h) × (result < hash_limit) }
+pub fn hash(h: u64, round: Round) -> usize
+    ensures { (result ≡ hashed round h) × (result < hash_limit) }
 {
-    let m = mix(h, second);
+    let m = mix(h, round);
     (m / (HASH_LIMIT as u64) % (HASH_LIMIT as u64)) as usize
 }
 
 // The hash of the first `used` words of the key at place i.
-fn hash_at(keys: &[u64], size: usize, used: usize, i: usize, second: bool) -> usize
-    requires { (size * i + size ≤ length keys.now) × (used ≤ size) }
-    ensures { result ≡ hash_at second used size keys.now i }
+fn hash_at(keys: Keys, used: usize, i: usize, round: Round) -> usize
+    requires { HasKey keys i × (used ≤ keys.size) }
+    ensures { result ≡ hash_at round used keys.entry.size keys.entry.words.now i }
 {
     let mut h: u64 = 0;
-    let mut k: usize = 0;
-    while k < used {
-        let x = field_at(keys, size, k, i);
-        h = absorb(h, x, second);
-        k += 1;
+    for k in 0..used {
+        let x = field_at(keys.words, keys.size, k, i);
+        h = absorb(h, x, round);
     }
-    hash(h, second)
+    hash(h, round)
 }
 
-fn hash_places(
-    keys: &[u64],
-    size: usize,
-    used: usize,
-    second: bool,
-    w: &[usize],
-    hashes: &mut [usize],
-)
-    requires { Keyed size keys.now w.now × (used ≤ size) × (length hashes.old ≡ length w.now) }
-    ensures { hashes.new ≡ map (hash_at second used size keys.now) w.now }
+fn hash_places(keys: Keys, used: usize, round: Round, w: &[usize], hashes: &mut [usize])
+    requires { Sortable keys w.now hashes.old × (used ≤ keys.size) }
+    ensures { hashes.new ≡ map (hash_at round used keys.entry.size keys.entry.words.now) w.now }
 {
-    let n = w.len();
-    let mut i: usize = 0;
-    while i < n {
-        hashes[i] = hash_at(keys, size, used, w[i], second);
-        i += 1;
+    for i in 0..w.len() {
+        hashes[i] = hash_at(keys, used, w[i], round);
     }
 }
 
@@ -91,15 +88,13 @@ pub fn hash_fields(w: &[u64], size: usize, at: usize, n: usize, hashes: &mut [us
     requires { (size * n ≤ length w.now) × (at < size) × (from + n ≤ length hashes.old) }
     ensures { hashes.new ≡ overwrite hashes.old from (map (field_hash size at w.now) (range 0 n)) }
 {
-    let mut i: usize = 0;
-    while i < n {
+    for i in 0..n {
         let x = field_at(w, size, at, i);
         hashes[from + i] = (x % (HASH_LIMIT as u64)) as usize;
-        i += 1;
     }
 }
 
-// Of two words of n records.
+// Of two words of n records. Stays: one loop for both hashes would take a closure with clauses of its own, which is no plainer.
 pub fn hash_pairs(
     w: &[u64],
     size: usize,
@@ -112,13 +107,11 @@ pub fn hash_pairs(
     requires { (size * n ≤ length w.now) × (a < size) × (b < size) × (from + n ≤ length hashes.old) }
     ensures { hashes.new ≡ overwrite hashes.old from (map (pair_hash size a b w.now) (range 0 n)) }
 {
-    let mut i: usize = 0;
-    while i < n {
+    for i in 0..n {
         let x = field_at(w, size, a, i);
         let y = field_at(w, size, b, i);
-        let h = absorb(absorb(0, x, false), y, false);
-        hashes[from + i] = hash(h, false);
-        i += 1;
+        let h = absorb(absorb(0, x, Round::First), y, Round::First);
+        hashes[from + i] = hash(h, Round::First);
     }
 }
 
@@ -127,12 +120,8 @@ fn count_hashes(hashes: &[usize], counts: &mut [u8])
     requires { Counted [] counts.old × Hashes hashes.now counts.old }
     ensures { (length counts.new ≡ length counts.old) × Counted hashes.now counts.new }
 {
-    let n = hashes.len();
-    let mut i: usize = 0;
-    while i < n {
-        let h = hashes[i];
+    for &h in hashes {
         let c = counts[h];
-        i += 1;
         if c < 2 {
             counts[h] = c + 1;
         }
@@ -146,13 +135,10 @@ fn keep(hashes: &[usize], counts: &[u8], w: &mut [usize]) -> usize
         × ((hash : ℕ → ℕ) → hashes.now ≡ map hash w.old
         → take result w.new ≡ filter (λ p. colliding counts.now (hash p)) w.old) }
 {
-    let n = w.len();
-    let mut i: usize = 0;
     let mut k: usize = 0;
-    while i < n {
+    for i in 0..w.len() {
         let c = counts[hashes[i]];
         w[k] = w[i];
-        i += 1;
         if 1 < c {
             k += 1;
         }
@@ -164,32 +150,18 @@ fn keep(hashes: &[usize], counts: &[u8], w: &mut [usize]) -> usize
 fn shorten(hashes: &mut [usize])
     ensures { hashes.new ≡ map (λ h. h % some_hashes) hashes.old }
 {
-    let n = hashes.len();
-    let mut i: usize = 0;
-    while i < n {
-        hashes[i] = hashes[i] % SOME_HASHES;
-        i += 1;
+    for i in 0..hashes.len() {
+        hashes[i] %= SOME_HASHES;
     }
 }
 
-// The same as `keep_colliding`, for some places and for all.
-fn keep_of_some(hashes: &mut [usize], w: &mut [usize]) -> usize
-    requires { length hashes.old ≡ length w.old }
+// The same as `keep_colliding`, for hashes below N.
+fn keep_counted<const N: usize>(hashes: &[usize], w: &mut [usize]) -> usize
+    requires { (length hashes.now ≡ length w.old) × (all (λ h. nat_lt h N) hashes.now ≡ true) × (N < 2 ^ 63) }
     ensures { (length w.new ≡ length w.old) × (result ≤ length w.old)
-        × ((hash : ℕ → ℕ) → hashes.old ≡ map hash w.old → Kept hash w.old (take result w.new)) }
+        × ((hash : ℕ → ℕ) → hashes.now ≡ map hash w.old → Kept hash w.old (take result w.new)) }
 {
-    let mut counts = [0u8; SOME_HASHES];
-    shorten(hashes);
-    count_hashes(hashes, &mut counts);
-    keep(hashes, &counts, w)
-}
-
-fn keep_of_all(hashes: &mut [usize], w: &mut [usize]) -> usize
-    requires { (length hashes.old ≡ length w.old) × (all (λ h. nat_lt h hash_limit) hashes.old ≡ true) }
-    ensures { (length w.new ≡ length w.old) × (result ≤ length w.old)
-        × ((hash : ℕ → ℕ) → hashes.old ≡ map hash w.old → Kept hash w.old (take result w.new)) }
-{
-    let mut counts = [0u8; HASH_LIMIT];
+    let mut counts = [0u8; N];
     count_hashes(hashes, &mut counts);
     keep(hashes, &counts, w)
 }
@@ -205,24 +177,18 @@ pub fn keep_colliding(hashes: &mut [usize], w: &mut [usize]) -> usize
         return n;
     }
     if n <= SOME_PLACES {
-        return keep_of_some(hashes, w);
+        shorten(hashes);
+        return keep_counted::<SOME_HASHES>(hashes, w);
     }
-    keep_of_all(hashes, w)
+    keep_counted::<HASH_LIMIT>(hashes, w)
 }
 
 // Leaves out places whose first `used` words no other place has: those left are moved to the front, and it returns how many they are. v is scratch.
-pub fn thin(
-    keys: &[u64],
-    size: usize,
-    used: usize,
-    second: bool,
-    w: &mut [usize],
-    v: &mut [usize],
-) -> usize
-    requires { Keyed size keys.now w.old × (used ≤ size) × (length v.old ≡ length w.old) }
+pub fn thin(keys: Keys, used: usize, round: Round, w: &mut [usize], v: &mut [usize]) -> usize
+    requires { Sortable keys w.old v.old × (used ≤ keys.size) }
     ensures { (length w.new ≡ length w.old) × (result ≤ length w.old)
-        × Thinned size used keys.now w.old (take result w.new) }
+        × Thinned keys.entry.size used keys.entry.words.now w.old (take result w.new) }
 {
-    hash_places(keys, size, used, second, w, v);
+    hash_places(keys, used, round, w, v);
     keep_colliding(v, w)
 }

@@ -1,41 +1,47 @@
-ghost use Rattle.std.specs.Prelude.{◌≡◌, not, length};
+ghost use Rattle.std.specs.Prelude.{◌≡◌, not, ℕ, Bool, ◌≤◌};
 ghost use Rattle.lists.specs.Lists.{pairwise, chained};
-ghost use Rattle.sorting.specs.Keys.{same_key, Keyed};
+ghost use Rattle.sorting.specs.Ordered.{same, Sortable, Asked, Tells, Decided};
 
-use crate::colliding::thin;
-use crate::keys::same_key;
+use crate::colliding::{Round, thin};
+use crate::keys::Keys;
 use crate::sort::sort;
 
-fn neighbours_differ(keys: &[u64], size: usize, w: &[usize]) -> bool
-    requires { Keyed size keys.now w.now }
-    ensures { result ≡ chained (λ i j. not (same_key size keys.now i j)) w.now }
+// Whether each two of the places that follow each other are apart.
+fn neighbours_apart<F: Fn(usize, usize) -> bool>(w: &[usize], apart: F) -> bool
+    requires { Asked (F.pre apart) w.now }
+    ensures { (q : ℕ → ℕ → Bool) → Tells (F.post apart) q w.now → result ≡ chained q w.now }
 {
-    let n = w.len();
-    let mut i: usize = 0;
-    while i + 1 < n {
-        let same = same_key(keys, size, w[i], w[i + 1]);
-        if same {
+    for i in 1..w.len() {
+        let ok = apart(w[i - 1], w[i]);
+        if !ok {
             return false;
         }
-        i += 1;
     }
     true
 }
 
-// Whether no two of the keys at those places are equal; v is scratch.
-fn sorted_differ(keys: &[u64], size: usize, w: &mut [usize], v: &mut [usize]) -> bool
-    requires { Keyed size keys.now w.old × (length v.old ≡ length w.old) }
-    ensures { result ≡ pairwise (λ i j. not (same_key size keys.now i j)) w.old }
+// Whether any two of those places are apart, where two with other first words are, and in the order of keys those that follow each other decide.
+// Places whose first words no other has, by the second hash, need no sort. v is scratch.
+pub fn places_apart<F: Fn(usize, usize) -> bool>(
+    keys: Keys,
+    used: usize,
+    w: &mut [usize],
+    v: &mut [usize],
+    apart: F,
+) -> bool
+    requires { Sortable keys w.old v.old × (used ≤ keys.size) × Asked (F.pre apart) w.old }
+    ensures { (q : ℕ → ℕ → Bool) → Tells (F.post apart) q w.old → Decided keys.entry used q w.old → result ≡ pairwise q w.old }
 {
-    sort(keys, size, w, v);
-    neighbours_differ(keys, size, w)
+    let r = thin(keys, used, Round::Second, w, v);
+    let left = &mut w[..r];
+    sort(keys, left, &mut v[..r]);
+    neighbours_apart(left, apart)
 }
 
-// Whether no two of the keys at those places are equal: those that are alone with their second hash need no sort. v is scratch.
-pub fn places_differ(keys: &[u64], size: usize, w: &mut [usize], v: &mut [usize]) -> bool
-    requires { Keyed size keys.now w.old × (length v.old ≡ length w.old) }
-    ensures { result ≡ pairwise (λ i j. not (same_key size keys.now i j)) w.old }
+// Whether no two of the keys at those places are equal; v is scratch.
+pub fn places_differ(keys: Keys, w: &mut [usize], v: &mut [usize]) -> bool
+    requires { Sortable keys w.old v.old }
+    ensures { result ≡ pairwise (λ i j. not (same keys.entry.size keys.entry i j)) w.old }
 {
-    let r = thin(keys, size, size, true, w, v);
-    sorted_differ(keys, size, &mut w[..r], &mut v[..r])
+    places_apart(keys, keys.size, w, v, |i, j| !keys.same(keys.size, i, j))
 }

@@ -10,7 +10,7 @@ use lib.ListN.{length}
 use Rattle.lists.proofs.Tests.{both}
 use Rattle.layout.specs.declared.outcome.Counts.{Counts}
 use Rattle.soundness_unique.specs.Comparable.{FilesScratch, NamesScratch}
-use Rattle.soundness.specs.Scratch.{none_above, Scratch}
+use Rattle.soundness.specs.Scratch.{none_above, Roomy}
 
 -- of each table
 record Most (c : Counts) (most : ℕ) : Type 0 where
@@ -37,7 +37,7 @@ none_above_lem c most h =
       scheduled = leb-true _ _ e.1;
     }
 
-module _ {c : Counts} {keys w v u : List ℕ} (s : Scratch c keys w v u) where
+module _ {c : Counts} {keys w v u : List ℕ} (s : Roomy c keys w v u) where
   most : Most c s.most
   most = none_above_lem c s.most s.few
 
@@ -67,5 +67,5 @@ module _ {c : Counts} {keys w v u : List ℕ} (s : Scratch c keys w v u) where
   rows_scratch e = omega (arith, most.tables, s.room, e)
 
 -- what is as long is scratch too
-pub scratch_kept : {c : Counts} {keys w v u keys' w' v' : List ℕ} → Scratch c keys w v u → length keys' ≡ length keys → length w' ≡ length w → length v' ≡ length v → Scratch c keys' w' v' u
+pub scratch_kept : {c : Counts} {keys w v u keys' w' v' : List ℕ} → Roomy c keys w v u → length keys' ≡ length keys → length w' ≡ length w → length v' ≡ length v → Roomy c keys' w' v' u
 scratch_kept s e f g = record { most = s.most; few = s.few; room = rw e s.room; places = rw f s.places; spare = rw g s.spare; starts = s.starts }

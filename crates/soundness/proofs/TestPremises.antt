@@ -71,7 +71,7 @@ module _ (w : Words) (c : Counts) (room : within c (capacity w) ≡ true) where
   unfolding load
   snapshots_by_id rise = snapshots_found w.snapshots c.snapshots (held w c room).snapshots rise
 
-  pub fields_lent : FieldsLent w.snapshots w.schemas w.schema_names w.tables w.table_names w.columns w.column_names w.data_files w.delete_files w.statistics w.scheduled c
+  pub fields_lent : FieldsLent w c
   fields_lent =
       let k = held w c room in
       record {

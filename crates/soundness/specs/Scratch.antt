@@ -17,7 +17,7 @@ none_above c most =
     leb c.schemas most && leb c.tables most && leb c.columns most && leb c.data_files most && leb c.delete_files most && leb c.scheduled most
 
 -- keys of six words for each record of a table, or of two for each record of three, as many places, twice, and a place for each record of one
-pub record Scratch (counts : Counts) (keys w v u : List ℕ) : Type 0 where
+pub record Roomy (counts : Counts) (keys w v u : List ℕ) : Type 0 where
   pub most : ℕ
   pub few : none_above counts most ≡ true
   pub room : 6 * most ≤ length keys

@@ -1,4 +1,5 @@
 // The lines of document 01's 'Sound tables', by number; the limit of columns, which stands above them, comes last.
+// Stays: the C interface hands these numbers out as they are.
 
 // Every line holds.
 pub const SOUND: u64 = 0;

@@ -10,14 +10,12 @@ pub fn positions_add_up(delete_files: &[u64], n: usize, total: usize) -> bool
     ensures { result ≡ eqb (positions_before delete_files.now n) total }
 {
     let mut sum: usize = 0;
-    let mut i: usize = 0;
-    while i < n {
+    for i in 0..n {
         let count = delete_file_delete_count(delete_files, i) as usize;
         if total - sum < count {
             return false;
         }
         sum += count;
-        i += 1;
     }
     sum == total
 }

@@ -2,16 +2,23 @@ ghost use Rattle.soundness_lives.specs.Lent.{Nestable};
 
 use layout::outcome::Counts;
 use layout::record::{ColumnRecord, DataFileRecord, DeleteFileRecord, SchemaRecord, TableRecord};
+use layout::tables::Tables;
 use lookup::places::{block_starts, locate};
+
+// Where the record that each one belongs to most likely is, and where the columns of each table's place begin.
+#[derive(Clone, Copy)]
+pub struct References<'a> {
+    pub of_tables: &'a [u16],
+    pub of_columns: &'a [u16],
+    pub of_data_files: &'a [u16],
+    pub of_delete_files: &'a [u16],
+    pub starts: &'a [u16],
+}
 
 // Seeks each record that another belongs to, once: the places where they most likely are, and where the columns of each table's place begin. The hints are
 // scratch.
 pub fn locate_references(
-    schemas: &[u64],
-    tables: &[u64],
-    columns: &[u64],
-    data_files: &[u64],
-    delete_files: &[u64],
+    lent: Tables,
     counts: Counts,
     hints: &mut [u16],
     of_tables: &mut [u16],
@@ -20,14 +27,14 @@ pub fn locate_references(
     of_delete_files: &mut [u16],
     starts: &mut [u16],
 )
-    requires { Nestable schemas.now tables.now columns.now data_files.now delete_files.now counts }
+    requires { Nestable lent.schemas.now lent.tables.now lent.columns.now lent.data_files.now lent.delete_files.now counts }
 {
     locate(
-        tables,
+        lent.tables,
         TableRecord::SIZE,
         TableRecord::SCHEMA,
         counts.tables,
-        schemas,
+        lent.schemas,
         SchemaRecord::SIZE,
         SchemaRecord::ID,
         counts.schemas,
@@ -35,11 +42,11 @@ pub fn locate_references(
         of_tables,
     );
     locate(
-        columns,
+        lent.columns,
         ColumnRecord::SIZE,
         ColumnRecord::TABLE,
         counts.columns,
-        tables,
+        lent.tables,
         TableRecord::SIZE,
         TableRecord::ID,
         counts.tables,
@@ -47,11 +54,11 @@ pub fn locate_references(
         of_columns,
     );
     locate(
-        data_files,
+        lent.data_files,
         DataFileRecord::SIZE,
         DataFileRecord::TABLE,
         counts.data_files,
-        tables,
+        lent.tables,
         TableRecord::SIZE,
         TableRecord::ID,
         counts.tables,
@@ -59,11 +66,11 @@ pub fn locate_references(
         of_data_files,
     );
     locate(
-        delete_files,
+        lent.delete_files,
         DeleteFileRecord::SIZE,
         DeleteFileRecord::DATA_FILE,
         counts.delete_files,
-        data_files,
+        lent.data_files,
         DataFileRecord::SIZE,
         DataFileRecord::ID,
         counts.data_files,

@@ -1,9 +1,9 @@
 // The lines that set records against each other.
 ghost use Rattle.std.specs.Prelude.{◌≡◌, ◌&&◌};
-ghost use Rattle.layout.specs.Lent.{lent_now, read_at_entry};
+ghost use Rattle.layout.specs.Lent.{words_lent};
 ghost use Rattle.layout.specs.Words.{load};
 ghost use Rattle.ducklake.specs.Soundness.{positions_add_up, deletes_sound, first_unsound};
-ghost use Rattle.soundness.specs.Scratch.{RecordsHold, Scratch};
+ghost use Rattle.soundness.specs.Scratch.{RecordsHold, Roomy};
 ghost use Rattle.soundness.specs.Told.{Compares};
 
 use crate::line::{
@@ -11,7 +11,9 @@ use crate::line::{
     STATISTICS_LINE,
 };
 use crate::positions::positions_add_up;
+use crate::references::References;
 use layout::outcome::Counts;
+use layout::tables::Tables;
 use soundness_deletes::deletes::deletes_sound;
 use soundness_deletes::rows::row_ranges_sound;
 use soundness_lives::nesting::lives_nest;
@@ -21,6 +23,7 @@ use soundness_unique::files::files_distinct;
 use soundness_unique::naming::names_apart;
 
 // What the tests say that compare records with others of their kind.
+// Stays: each truth value is a line's own answer, and no value goes with it.
 #[derive(Clone, Copy)]
 pub struct Compared {
     pub distinct: bool,
@@ -29,43 +32,31 @@ pub struct Compared {
     pub rows: bool,
 }
 
-// Whether positions add up, and delete files are sound; keys, w, v and u are scratch.
-fn deletes_add_up(
-    snapshots: &[u64],
-    schemas: &[u64],
-    schema_names: &[u8],
-    tables: &[u64],
-    table_names: &[u8],
-    columns: &[u64],
-    column_names: &[u8],
-    data_files: &[u64],
-    delete_files: &[u64],
-    positions: &[u64],
-    statistics: &[u64],
-    scheduled: &[u64],
-    counts: Counts,
-    of_delete_files: &[u16],
-    keys: &mut [u64],
-    w: &mut [usize],
-    v: &mut [usize],
-    u: &mut [usize],
-) -> bool
-    requires { RecordsHold (lent_now snapshots schemas schema_names tables table_names columns column_names
-        data_files delete_files positions statistics scheduled) counts
-        × Scratch counts keys.old w.old v.old u.old }
-    ensures { result ≡ (positions_add_up (read_at_entry snapshots schemas schema_names tables table_names columns column_names
-        data_files delete_files positions statistics scheduled) counts
-        && deletes_sound (load (read_at_entry snapshots schemas schema_names tables table_names columns column_names
-        data_files delete_files positions statistics scheduled) counts)) }
+// Scratch of these tests.
+#[derive(Drop)]
+pub struct Scratch<'a> {
+    pub keys: &'a mut [u64],
+    pub w: &'a mut [usize],
+    pub v: &'a mut [usize],
+    pub u: &'a mut [usize],
+}
+
+// Whether positions add up, and delete files are sound.
+fn deletes_add_up(lent: Tables, counts: Counts, of_delete_files: &[u16], scratch: Scratch) -> bool
+    requires { RecordsHold (words_lent lent) counts
+        × Roomy counts scratch.keys.now scratch.w.now scratch.v.now scratch.u.now }
+    ensures { result ≡ (positions_add_up (words_lent lent.entry) counts
+        && deletes_sound (load (words_lent lent.entry) counts)) }
 {
-    let summed = positions_add_up(delete_files, counts.delete_files, counts.positions);
+    let Scratch { keys, w, v, u } = scratch;
+    let summed = positions_add_up(lent.delete_files, counts.delete_files, counts.positions);
     if !summed {
         return false;
     }
     deletes_sound(
-        data_files,
-        delete_files,
-        positions,
+        lent.data_files,
+        lent.delete_files,
+        lent.positions,
         counts,
         of_delete_files,
         keys,
@@ -75,68 +66,47 @@ fn deletes_add_up(
     )
 }
 
-// Makes these tests, none of which relies on another; keys, w, v and u are scratch.
-pub fn compare(
-    snapshots: &[u64],
-    schemas: &[u64],
-    schema_names: &[u8],
-    tables: &[u64],
-    table_names: &[u8],
-    columns: &[u64],
-    column_names: &[u8],
-    data_files: &[u64],
-    delete_files: &[u64],
-    positions: &[u64],
-    statistics: &[u64],
-    scheduled: &[u64],
-    counts: Counts,
-    of_data_files: &[u16],
-    of_delete_files: &[u16],
-    keys: &mut [u64],
-    w: &mut [usize],
-    v: &mut [usize],
-    u: &mut [usize],
-) -> Compared
-    requires { RecordsHold (lent_now snapshots schemas schema_names tables table_names columns column_names
-        data_files delete_files positions statistics scheduled) counts
-        × Scratch counts keys.old w.old v.old u.old }
-    ensures { Compares (read_at_entry snapshots schemas schema_names tables table_names columns column_names
-        data_files delete_files positions statistics scheduled) counts result }
+// Makes these tests, none of which relies on another.
+pub fn compare(lent: Tables, counts: Counts, references: References, scratch: Scratch) -> Compared
+    requires { RecordsHold (words_lent lent) counts
+        × Roomy counts scratch.keys.now scratch.w.now scratch.v.now scratch.u.now }
+    ensures { Compares (words_lent lent.entry) counts result }
 {
-    let distinct = files_distinct(data_files, delete_files, scheduled, counts, keys, w, v);
-    let apart = names_apart(
-        schemas,
-        schema_names,
-        tables,
-        table_names,
-        columns,
-        column_names,
+    let Scratch { keys, w, v, u } = scratch;
+    let distinct = files_distinct(
+        lent.data_files,
+        lent.delete_files,
+        lent.scheduled,
         counts,
         keys,
         w,
         v,
+    );
+    let apart = names_apart(
+        lent.schemas,
+        lent.schema_names,
+        lent.tables,
+        lent.table_names,
+        lent.columns,
+        lent.column_names,
+        counts,
+        keys,
+        w,
+        v,
+    );
+    let rows = row_ranges_sound(
+        lent.tables,
+        lent.data_files,
+        counts,
+        references.of_data_files,
+        keys,
     );
     let deletes = deletes_add_up(
-        snapshots,
-        schemas,
-        schema_names,
-        tables,
-        table_names,
-        columns,
-        column_names,
-        data_files,
-        delete_files,
-        positions,
-        statistics,
-        scheduled,
+        lent,
         counts,
-        of_delete_files,
-        keys,
-        w,
-        v,
-        u,
+        references.of_delete_files,
+        Scratch { keys, w, v, u },
     );
-    let rows = row_ranges_sound(tables, data_files, counts, of_data_files, keys);
     Compared {
         distinct,
         apart,
@@ -147,47 +117,29 @@ pub fn compare(
 
 // The first line that doesn't hold, where those of each record by itself do. A test relies on those before it.
 pub fn relations_unsound(
-    snapshots: &[u64],
-    schemas: &[u64],
-    schema_names: &[u8],
-    tables: &[u64],
-    table_names: &[u8],
-    columns: &[u64],
-    column_names: &[u8],
-    data_files: &[u64],
-    delete_files: &[u64],
-    positions: &[u64],
-    statistics: &[u64],
-    scheduled: &[u64],
+    lent: Tables,
     counts: Counts,
     compared: Compared,
-    of_tables: &[u16],
-    of_columns: &[u16],
-    of_data_files: &[u16],
-    of_delete_files: &[u16],
-    starts: &[u16],
+    references: References,
 ) -> u64
-    requires { RecordsHold (lent_now snapshots schemas schema_names tables table_names columns column_names
-        data_files delete_files positions statistics scheduled) counts
-        × Compares (lent_now snapshots schemas schema_names tables table_names columns column_names
-        data_files delete_files positions statistics scheduled) counts compared }
-    ensures { result ≡ first_unsound (read_at_entry snapshots schemas schema_names tables table_names columns column_names
-        data_files delete_files positions statistics scheduled) counts }
+    requires { RecordsHold (words_lent lent) counts
+        × Compares (words_lent lent) counts compared }
+    ensures { result ≡ first_unsound (words_lent lent.entry) counts }
 {
     if !compared.distinct {
         return NEXT_IDS_LINE;
     }
     let nest = lives_nest(
-        schemas,
-        tables,
-        columns,
-        data_files,
-        delete_files,
+        lent.schemas,
+        lent.tables,
+        lent.columns,
+        lent.data_files,
+        lent.delete_files,
         counts,
-        of_tables,
-        of_columns,
-        of_data_files,
-        of_delete_files,
+        references.of_tables,
+        references.of_columns,
+        references.of_data_files,
+        references.of_delete_files,
     );
     if !nest {
         return NESTING_LINE;
@@ -202,17 +154,17 @@ pub fn relations_unsound(
         return ROWS_LINE;
     }
     let covered = statistics_sound(
-        columns,
-        data_files,
-        statistics,
+        lent.columns,
+        lent.data_files,
+        lent.statistics,
         counts,
-        of_data_files,
-        starts,
+        references.of_data_files,
+        references.starts,
     );
     if !covered {
         return STATISTICS_LINE;
     }
-    let few = column_counts_sound(tables, columns, counts);
+    let few = column_counts_sound(lent.tables, lent.columns, counts);
     if !few {
         return COLUMNS_LINE;
     }

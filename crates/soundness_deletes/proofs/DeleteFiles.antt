@@ -1,43 +1,28 @@
 -- Delete files: whether their positions are sound, and how they succeed each other.
+use Rattle.std.specs.Prelude.{None, Option, Some}
 use Prim.Native.Nat.{ℕ, ◌-◌, ◌≤◌, ◌<◌}
 use mathlib.Core.Path.{◌≡◌, refl, sym, ap, ap₂, ◌∙◌}
 use mathlib.Core.Bool.{Bool, true, false, not, ◌&&◌, ◌||◌, and-true, and-false}
-use mathlib.Core.List.{List, [], ◌∷◌, map}
+use mathlib.Core.List.{List, [], ◌∷◌}
 use native.Mathlib.Omega.{arith}
 use lib.Dec.{leb, ltb, eqb}
-use lib.ListN.{length, get_or, take}
+use lib.ListN.{length, get_or}
 use borrow.Author.Tests.{le-leb, lt-leb, leb-true, ltb-true, lt-ltb, eq-eqb, ne_eqb}
-use Rattle.lists.specs.Lists.{range, all, any, chained, has}
+use Rattle.lists.specs.Lists.{all, any, chained, has}
 use Rattle.lists.specs.Runs.{at, field}
-use Rattle.lists.specs.declared.Found.{Found}
-use Rattle.lists.specs.declared.Found.TheVariants.{At, Nothing}
 use Rattle.lists.proofs.Tests.{if, both, and, or_left, or_right}
 use Rattle.lists.proofs.Members.{each, all_in, in_all}
 use Rattle.lists.proofs.Selections.{any_some, has_trans}
 use Rattle.lists.proofs.Places.{all-at, at_all, any_nowhere}
 use Rattle.lists.proofs.Search.{any_found}
-use Rattle.layout.specs.declared.outcome.Counts.{Counts}
 use Rattle.layout.specs.declared.record.DeleteFileRecord.{DeleteFileRecord}
 use Rattle.layout.specs.Catalog.{Versioned, DataFile, DeleteFile, delete_file_of}
 use Rattle.layout.specs.Fields.{data_file_size, data_file_id_word}
 use Rattle.layout.specs.Records.{data_file_layout}
-use Rattle.layout.specs.Words.{positions_before, delete_file_at, delete_files_in, data_file_at, data_files_in}
+use Rattle.layout.specs.Words.{delete_file_at, delete_files_in, data_file_at, data_files_in}
 use Rattle.ducklake.specs.Soundness.{succeeded_by, delete_files_apart, positions_sound}
 use Rattle.lookup.specs.Order.{DataFilesById, place_of}
-use Rattle.lookup.specs.Positions.{PositionsLocated}
-use Rattle.lookup.proofs.Locations.{located_from}
-use Rattle.soundness_deletes.specs.Deletes.{begins_before_end, positions_ascend, DeletesCheckable, DeletesComparable, PositionsComparable, PositionsComparableAt}
-
--- delete files whose positions are lent, once it is known where those of each begin
-pub located : {files run positions starts : List ℕ} {counts : Counts} → DeletesCheckable files run positions counts
-    → take counts.delete_files starts ≡ map (positions_before run) (range 0 counts.delete_files) → PositionsLocated run positions starts counts.delete_files
-located q e = record { held = record { lent = q.positions_within.lent; within = omega (arith, q.positions_within.within) }; located = e }
-
--- one of n delete files that can be compared
-pub comparable_at : (run positions starts : List ℕ) {n : ℕ} (i : ℕ) → PositionsComparable run positions starts n → i < n → PositionsComparableAt run positions starts i
-comparable_at run positions starts {n} i l h =
-    let t = located_from run positions starts i l.located h in
-    record { listed = t.0; from = t.1; ascend = all-at (delete_file_at run positions) positions_ascend n i l.ascend h }
+use Rattle.soundness_deletes.specs.Deletes.{begins_before_end, positions_ascend}
 
 -- a delete file without positions is not sound
 none : (xs : List ℕ) → length xs ≡ 0 → any (λ p. true) xs ≡ false
@@ -71,14 +56,14 @@ module _ (files : List ℕ) (n : ℕ) (g : DeleteFileRecord) (ps : List ℕ) whe
   abbrev all_below : Versioned DataFile → Bool
   all_below v = all (λ p. ltb p v.body.record_count) ps
 
-  module _ {r : Found} (p : r ≡ place_of data_file_size data_file_id_word files n g.data_file.0) where
+  module _ {r : Option ℕ} (p : r ≡ place_of data_file_size data_file_id_word files n g.data_file.0) where
     -- there is no such data file
-    pub unsound_lost : r ≡ Nothing → positions_sound (data_files_in files n) (delete_file_of g ps) ≡ false
+    pub unsound_lost : r ≡ None → positions_sound (data_files_in files n) (delete_file_of g ps) ≡ false
     unfolding field positions_sound
     unsound_lost h = rw (any_nowhere (data_file_at files) (λ v. v.id) g.data_file.0 n all_below p h, and-false) refl
 
     -- it has so many rows: they ascend, and the last is below that
-    pub sound_found : {j rows : ℕ} {a : Bool} → DataFilesById files n → r ≡ At j → rows ≡ (at data_file_layout files j).record_count → (length ps ≡ 0 → ⊥)
+    pub sound_found : {j rows : ℕ} {a : Bool} → DataFilesById files n → r ≡ Some j → rows ≡ (at data_file_layout files j).record_count → (length ps ≡ 0 → ⊥)
         → a ≡ chained ltb ps → (a && ltb (get_or ps (length ps - 1) 0) rows) ≡ positions_sound (data_files_in files n) (delete_file_of g ps)
     unfolding field positions_sound
     sound_found {rows = rows} e h l z s =
@@ -91,7 +76,7 @@ pub read_sound : (fs : List (Versioned DataFile)) {f g : DeleteFileRecord} {ps q
 read_sound fs e t h = h ∙ ap₂ (λ g ps. positions_sound fs (delete_file_of g ps)) e t
 
 -- sound positions ascend, so delete files that have them can be compared
-sound_ascend : (files : List ℕ) (n : ℕ) (run positions : List ℕ) (m : ℕ) → all (positions_sound (data_files_in files n)) (delete_files_in run positions m) ≡ true
+pub sound_ascend : (files : List ℕ) (n : ℕ) (run positions : List ℕ) (m : ℕ) → all (positions_sound (data_files_in files n)) (delete_files_in run positions m) ≡ true
     → all positions_ascend (delete_files_in run positions m) ≡ true
 unfolding positions_sound
 sound_ascend files n run positions m t =
@@ -100,13 +85,6 @@ sound_ascend files n run positions m t =
     (both (any (λ p. true) d.body.positions) (chained ltb d.body.positions)
     (both (any (λ p. true) d.body.positions && chained ltb d.body.positions) (any (λ f. eqb f.id d.body.data_file && all (λ p. ltb p f.body.record_count) d.body.positions) (data_files_in files n))
     (all-at (delete_file_at run positions) (positions_sound (data_files_in files n)) m i t h)).0).1)
-
-pub comparable : {files run positions starts : List ℕ} {counts : Counts} → DeletesCheckable files run positions counts
-    → PositionsLocated run positions starts counts.delete_files
-    → all (positions_sound (data_files_in files counts.data_files)) (delete_files_in run positions counts.delete_files) ≡ true
-    → DeletesComparable run positions starts counts.delete_files
-comparable {files} {run} {positions} {counts = counts} q l t =
-    record { positions_comparable = record { located = l; ascend = sound_ascend files counts.data_files run positions counts.delete_files t }; lives = q.lives }
 
 -- two delete files: whether the second succeeds the first
 module _ (d e : Versioned DeleteFile) where

@@ -1,24 +1,22 @@
 -- Row ranges. Where each of a table's files starts at or above the end of the one before, it starts above all earlier ones, so a pass that notes
 -- where the rows of each table end compares enough.
-use Prim.Native.Nat.{ℕ, ◌+◌, ◌-◌, ◌≤◌, ◌<◌}
-use mathlib.Core.Path.{◌≡◌, sym, ap, ap₂, ◌∙◌}
+use Rattle.std.specs.Prelude.{None, Option, Some}
+use Prim.Native.Nat.{ℕ, ◌+◌, ◌≤◌, ◌<◌}
+use mathlib.Core.Path.{◌≡◌, sym, ap, ◌∙◌}
 use mathlib.Core.Bool.{Bool, true, false, not, ◌&&◌, ◌||◌}
 use mathlib.Core.List.{List, []}
 use native.Mathlib.Omega.{arith}
 use borrow.Author.Tests.{leb-true, le-leb, lt-leb, eqb-true, eq-eqb}
 use lib.Dec.{leb, eqb}
-use lib.ListN.{length, get_or, set, take, replicate, length-replicate}
+use lib.ListN.{length, get_or, set, replicate}
 use mir.Syntax.{w64}
 use mir.Val.{Fits}
-use Rattle.lists.specs.declared.Found.{Found}
-use Rattle.lists.specs.declared.Found.TheVariants.{At, Nothing}
 use Rattle.lists.specs.Lists.{range, all, pairwise, has}
-use Rattle.lists.specs.Runs.{at, field, fields, overwrite}
+use Rattle.lists.specs.Runs.{at, field, fields}
 use Rattle.lists.proofs.Members.{any_in, in_any, in_map, in_map_of}
 use Rattle.lists.proofs.Memory.{remembered, remembered_start, remembered_pass, remembered_fail, remembered_end}
 use Rattle.lists.proofs.Places as places
 use Rattle.lists.proofs.Places.{any_nowhere, place_in, same_place, all-at, has_place, is_at, found_tells}
-use Rattle.lists.proofs.Runs.{overwrite_front}
 use Rattle.lists.proofs.Search.{any_found}
 use Rattle.lists.proofs.Tests.{both, clash}
 use Rattle.lists.proofs.Windows.{get_d_padded}
@@ -46,12 +44,12 @@ rows_fit file e =
     omega (arith, leb-true file.row_id_start.0 number_limit b.1, leb-true file.record_count record_count_limit (both (leb 1 file.record_count) _ a.1).1)
 
 -- a file's rows against the table that was found, and where none was
-module _ (tables names : List ℕ) (n : ℕ) (f : Versioned DataFile) {r : Found} (h : r ≡ place_of table_size table_id_word tables n f.body.table) where
-  pub rows_found : {e l j : ℕ} → TablesById tables n → r ≡ At j → e ≡ row_id_end f → l ≡ (at table_layout tables j).next_row_id.0 → leb e l ≡ rows_in_table (tables_in tables names n) f
+module _ (tables names : List ℕ) (n : ℕ) (f : Versioned DataFile) {r : Option ℕ} (h : r ≡ place_of table_size table_id_word tables n f.body.table) where
+  pub rows_found : {e l j : ℕ} → TablesById tables n → r ≡ Some j → e ≡ row_id_end f → l ≡ (at table_layout tables j).next_row_id.0 → leb e l ≡ rows_in_table (tables_in tables names n) f
   unfolding field rows_in_table
   rows_found {e} t g a b = rw (a, b) (sym (any_found (table_at tables names) (λ v. v.id) f.body.table n (λ v. leb (row_id_end f) v.body.next_row_id) t.ascending h g))
 
-  pub rows_nowhere : r ≡ Nothing → rows_in_table (tables_in tables names n) f ≡ false
+  pub rows_nowhere : r ≡ None → rows_in_table (tables_in tables names n) f ≡ false
   unfolding field rows_in_table
   rows_nowhere g = any_nowhere (table_at tables names) (λ v. v.id) f.body.table n (λ v. leb (row_id_end f) v.body.next_row_id) h g
 
@@ -85,16 +83,6 @@ module _ (tables : List ℕ) (n : ℕ) (files : List ℕ) (m : ℕ) where
   unfolding ascend
   ascend_end = remembered_end m key_at (end_at files) (past files) (later files m)
 
--- the first n notes, once they were cleared
-pub cleared : (w : List ℕ) (n : ℕ) {v : List ℕ} → v ≡ overwrite w 0 (replicate (n - 0) 0) → take (n - 0) v ≡ replicate n 0
-cleared w n e = ap₂ take long e ∙ (overwrite_front w 0 (replicate (n - 0) 0) (omega arith) ∙ ap (λ (k : ℕ). replicate k 0) whole)
-  where
-    long : n - 0 ≡ 0 + length {A = ℕ} (replicate (n - 0) 0)
-    long = omega (arith, length-replicate {A = ℕ} (n - 0) 0)
-
-    whole : n - 0 ≡ n
-    whole = omega arith
-
 -- rows that lie in their tables have tables on record
 module _ {tables files : List ℕ} {counts : Counts} (p : RowRangesCheckable tables files counts)
     (e : (names : List ℕ) → all (rows_in_table (tables_in tables names counts.tables)) (data_files_in files counts.data_files) ≡ true) where
@@ -121,14 +109,14 @@ module _ {tables files : List ℕ} {counts : Counts} (p : RowRangesCheckable tab
       (λ j. get_d_padded 0 [] n j) (λ j. le-leb 0 (start_at files j) (omega arith)))
 
   -- the turn i, with the file that was read and what the search for its table gave
-  module _ {file : DataFileRecord} {r : Found} {i : ℕ} (l : i < m) (v : file ≡ at data_file_layout files i) (f : r ≡ place_of table_size table_id_word tables n file.table.0) where
+  module _ {file : DataFileRecord} {r : Option ℕ} {i : ℕ} (l : i < m) (v : file ≡ at data_file_layout files i) (f : r ≡ place_of table_size table_id_word tables n file.table.0) where
     table_is : file.table.0 ≡ (data_file_at files i).body.table
     table_is = ap (λ w. w.table.0) v
 
-    pub ascend_found : r ≡ Nothing → ⊥
+    pub ascend_found : r ≡ None → ⊥
     ascend_found g = clash (sym (has_place (fields table_size table_id_word tables n) table_is f) ∙ table_there i l) (ap is_at g)
 
-    module _ {j : ℕ} (g : r ≡ At j) where
+    module _ {j : ℕ} (g : r ≡ Some j) where
       -- its table has a place among the notes
       pub slot : j < n
       slot = (found_tells (field table_size table_id_word tables) _ n f g).0

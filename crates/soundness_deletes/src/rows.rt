@@ -9,12 +9,10 @@ ghost use Rattle.soundness_deletes.specs.Rows.{RowRangesCheckable};
 use layout::number::RowId;
 use layout::outcome::Counts;
 use layout::record::DataFileRecord;
-use lists::Found;
 use lookup::find::find_table_near;
 use records::data_file::data_file_at;
 use records::table::table_next_row_id;
 use runs::hints::place_at;
-use runs::kept_words::clear_words;
 
 // The row number after the last of a file.
 fn row_id_end(file: DataFileRecord) -> RowId
@@ -31,64 +29,67 @@ fn rows_in_table(tables: &[u64], n: usize, file: DataFileRecord, near: usize) ->
 {
     let found = find_table_near(tables, n, file.table, near);
     match found {
-        Found::At(j) => {
+        Some(j) => {
             let end = row_id_end(file);
             let next = table_next_row_id(tables, j);
-            end.0 <= next.0
+            end <= next
         }
-        Found::Nothing => false,
+        None => false,
     }
 }
 
-fn all_rows_in_tables(tables: &[u64], data_files: &[u64], counts: Counts, places: &[u16]) -> bool
-    requires { RowRangesCheckable tables.now data_files.now counts }
-    ensures { (names : List ℕ) → result ≡ all (rows_in_table (tables_in tables.now names counts.tables))
-        (data_files_in data_files.now counts.data_files) }
-{
-    let mut i: usize = 0;
-    while i < counts.data_files {
-        let file = data_file_at(data_files, i);
-        let near = place_at(places, i);
-        let ok = rows_in_table(tables, counts.tables, file, near);
-        if !ok {
-            return false;
-        }
-        i += 1;
-    }
-    true
-}
-
-// Whether the rows of a table's files ascend with the file id and don't overlap: in one pass that notes, for each table, where its rows end;
-// none do at first.
-fn rows_ascend(
-    tables: &[u64],
-    data_files: &[u64],
+// Tables, their data files, and of each file the place where its table most likely is.
+#[derive(Clone, Copy)]
+struct RowRanges<'a> {
+    tables: &'a [u64],
+    data_files: &'a [u64],
     counts: Counts,
-    places: &[u16],
-    ends: &mut [u64],
-) -> bool
-    requires { RowRangesCheckable tables.now data_files.now counts
-        × ((names : List ℕ)
-        → all (rows_in_table (tables_in tables.now names counts.tables)) (data_files_in data_files.now counts.data_files) ≡ true)
-        × (ends.old ≡ replicate counts.tables 0) }
-    ensures { result ≡ pairwise rows_before (data_files_in data_files.now counts.data_files) }
-{
-    let mut i: usize = 0;
-    while i < counts.data_files {
-        let file = data_file_at(data_files, i);
-        let near = place_at(places, i);
-        let found = find_table_near(tables, counts.tables, file.table, near);
-        let Found::At(k) = found else {
-            return false;
-        };
-        if file.row_id_start.0 < ends[k] {
-            return false;
+    places: &'a [u16],
+    ghost checkable: { RowRangesCheckable tables.now data_files.now counts },
+}
+
+impl<'a> RowRanges<'a> {
+    fn in_tables(self) -> bool
+        ensures { (names : List ℕ) → result ≡ all (rows_in_table (tables_in self.entry.tables.now names self.entry.counts.tables))
+            (data_files_in self.entry.data_files.now self.entry.counts.data_files) }
+    {
+        for i in 0..self.counts.data_files {
+            let file = data_file_at(self.data_files, i);
+            if !rows_in_table(
+                self.tables,
+                self.counts.tables,
+                file,
+                place_at(self.places, i),
+            ) {
+                return false;
+            }
         }
-        let end = row_id_end(file);
-        ends[k] = end.0;
-        i += 1;
+        true
     }
-    true
+
+    // Whether the rows of a table's files ascend with the file id and don't overlap: in one pass that notes, for each table, where its rows end;
+    // none do at first.
+    fn ascend(self, ends: &mut [u64]) -> bool
+        requires { ((names : List ℕ)
+            → all (rows_in_table (tables_in self.tables.now names self.counts.tables)) (data_files_in self.data_files.now self.counts.data_files) ≡ true)
+            × (ends.old ≡ replicate self.counts.tables 0) }
+        ensures { result ≡ pairwise rows_before (data_files_in self.entry.data_files.now self.entry.counts.data_files) }
+    {
+        for i in 0..self.counts.data_files {
+            let file = data_file_at(self.data_files, i);
+            let near = place_at(self.places, i);
+            let Some(k) = find_table_near(self.tables, self.counts.tables, file.table, near) else {
+                return false;
+            };
+            let noted = &mut ends[k];
+            // Stays: what is noted is a word of the scratch.
+            if file.row_id_start.0 < *noted {
+                return false;
+            }
+            *noted = row_id_end(file).0;
+        }
+        true
+    }
 }
 
 // Of each file there is the place where its table most likely is; the ends are scratch.
@@ -104,11 +105,16 @@ pub fn row_ranges_sound(
     ensures { (w : Words) → w.tables ≡ tables.now → w.data_files ≡ data_files.now
         → result ≡ row_ranges_sound (load w counts) }
 {
-    let ok = all_rows_in_tables(tables, data_files, counts, places);
-    if !ok {
+    let ranges = RowRanges {
+        tables,
+        data_files,
+        counts,
+        places,
+    };
+    if !ranges.in_tables() {
         return false;
     }
     let n = counts.tables;
-    clear_words(ends, 0, n);
-    rows_ascend(tables, data_files, counts, places, &mut ends[0..n])
+    ends[0..n].fill(0);
+    ranges.ascend(&mut ends[0..n])
 }

@@ -7,8 +7,7 @@ use layout::outcome::Counts;
 use layout::record::{
     ColumnRecord, DataFileRecord, DeleteFileRecord, SchemaRecord, StatisticsRecord, TableRecord,
 };
-use runs::fields::fields_ascend;
-use runs::pairs::pairs_ascend;
+use runs::fields::Fields;
 
 // "ids ascend strictly in schema, table, data file and delete file, columns by (table id, column id), statistics by (data file id, column id)":
 // what every lookup relies on.
@@ -31,38 +30,47 @@ pub fn ids_ascend(
         → w.statistics ≡ statistics.now
         → result ≡ ids_ascend (load w counts) }
 {
-    let a = fields_ascend(
-        schemas,
-        SchemaRecord::SIZE,
-        SchemaRecord::ID,
-        counts.schemas,
-    );
-    let b = fields_ascend(tables, TableRecord::SIZE, TableRecord::ID, counts.tables);
-    let c = fields_ascend(
-        data_files,
-        DataFileRecord::SIZE,
-        DataFileRecord::ID,
-        counts.data_files,
-    );
-    let d = fields_ascend(
-        delete_files,
-        DeleteFileRecord::SIZE,
-        DeleteFileRecord::ID,
-        counts.delete_files,
-    );
-    let e = pairs_ascend(
-        columns,
-        ColumnRecord::SIZE,
-        ColumnRecord::TABLE,
-        ColumnRecord::ID,
-        counts.columns,
-    );
-    let f = pairs_ascend(
-        statistics,
-        StatisticsRecord::SIZE,
-        StatisticsRecord::DATA_FILE,
-        StatisticsRecord::COLUMN,
-        counts.statistics,
-    );
+    let of_schemas = Fields {
+        words: schemas,
+        size: SchemaRecord::SIZE,
+        at: SchemaRecord::ID,
+        n: counts.schemas,
+    };
+    let of_tables = Fields {
+        words: tables,
+        size: TableRecord::SIZE,
+        at: TableRecord::ID,
+        n: counts.tables,
+    };
+    let of_data_files = Fields {
+        words: data_files,
+        size: DataFileRecord::SIZE,
+        at: DataFileRecord::ID,
+        n: counts.data_files,
+    };
+    let of_delete_files = Fields {
+        words: delete_files,
+        size: DeleteFileRecord::SIZE,
+        at: DeleteFileRecord::ID,
+        n: counts.delete_files,
+    };
+    let of_columns = Fields {
+        words: columns,
+        size: ColumnRecord::SIZE,
+        at: ColumnRecord::TABLE,
+        n: counts.columns,
+    };
+    let of_statistics = Fields {
+        words: statistics,
+        size: StatisticsRecord::SIZE,
+        at: StatisticsRecord::DATA_FILE,
+        n: counts.statistics,
+    };
+    let a = of_schemas.ascend();
+    let b = of_tables.ascend();
+    let c = of_data_files.ascend();
+    let d = of_delete_files.ascend();
+    let e = of_columns.ascend_then(ColumnRecord::ID);
+    let f = of_statistics.ascend_then(StatisticsRecord::COLUMN);
     a & b & c & d & e & f
 }

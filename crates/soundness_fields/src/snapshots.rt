@@ -1,77 +1,45 @@
-ghost use Rattle.std.specs.Prelude.{◌≡◌, ◌&&◌, ◌+◌, ◌*◌, ◌≤◌, length, ltb};
-ghost use Rattle.lists.specs.Lists.{all, chained};
+ghost use Rattle.std.specs.Prelude.{◌≡◌, ◌+◌, ◌*◌, ◌≤◌, length};
 ghost use Rattle.layout.specs.Fields.{snapshot_size};
 ghost use Rattle.layout.specs.Words.{snapshot_at, snapshots_in};
 ghost use Rattle.ducklake.specs.Kinds.{is_kind};
-ghost use Rattle.ducklake.specs.Soundness.{follows, snapshots_rise};
+ghost use Rattle.ducklake.specs.Soundness.{follows, change_sound, snapshots_rise};
 
+use layout::kind::ChangeKind;
 use layout::number::CatalogId;
-use layout::record::{
-    CREATED_SCHEMA, CREATED_TABLE, DELETED_FROM_TABLE, DROPPED_SCHEMA, DROPPED_TABLE,
-    INSERTED_INTO_TABLE,
-};
 use lookup::find::latest_snapshot;
 use records::snapshot::snapshot_at;
 
 // "change kinds are those below"
+#[tactic(auto, unfolding(ducklake::specs::Kinds::is_kind, layout::specs::Kinds::kind_of, lists::specs::Lists::any))]
 fn is_kind(kind: u64) -> bool
     ensures { result ≡ is_kind kind }
 {
-    match kind {
-        CREATED_SCHEMA => true,
-        CREATED_TABLE => true,
-        INSERTED_INTO_TABLE => true,
-        DELETED_FROM_TABLE => true,
-        DROPPED_SCHEMA => true,
-        DROPPED_TABLE => true,
-        _ => false,
-    }
+    ChangeKind::of(kind).is_some()
 }
 
 // Whether the snapshot i + 1 follows the snapshot i: a higher id; time, schema version and next ids not lower.
+#[tactic(auto, unfolding(ducklake::specs::Soundness::follows))]
 fn next_follows(snapshots: &[u64], i: usize) -> bool
     requires { snapshot_size * (i + 1) + snapshot_size ≤ length snapshots.now }
     ensures { result ≡ follows (snapshot_at snapshots.now i) (snapshot_at snapshots.now (i + 1)) }
 {
     let a = snapshot_at(snapshots, i);
     let b = snapshot_at(snapshots, i + 1);
-    (a.id.0 < b.id.0)
+    (a.id < b.id)
         & (a.time <= b.time)
         & (a.schema_version <= b.schema_version)
-        & (a.next_catalog_id.0 <= b.next_catalog_id.0)
-        & (a.next_file_id.0 <= b.next_file_id.0)
+        & (a.next_catalog_id <= b.next_catalog_id)
+        & (a.next_file_id <= b.next_file_id)
 }
 
-fn snapshots_follow(snapshots: &[u64], n: usize) -> bool
-    requires { snapshot_size * n ≤ length snapshots.now }
-    ensures { result ≡ chained follows (snapshots_in snapshots.now n) }
+// Whether the change of the snapshot i is of a known kind, and of a schema or table below the next id.
+fn change_sound(snapshots: &[u64], i: usize, next: CatalogId) -> bool
+    requires { snapshot_size * i + snapshot_size ≤ length snapshots.now }
+    ensures { result ≡ change_sound next.0 (snapshot_at snapshots.now i) }
 {
-    let mut i: usize = 0;
-    while i + 1 < n {
-        let ok = next_follows(snapshots, i);
-        if !ok {
-            return false;
-        }
-        i += 1;
-    }
-    true
-}
-
-// Whether the snapshots' changes are of known kinds, and of schemas and tables below the next id.
-fn changes_sound(snapshots: &[u64], n: usize, next: CatalogId) -> bool
-    requires { snapshot_size * n ≤ length snapshots.now }
-    ensures { result ≡ all (λ s. is_kind s.kind && ltb s.object next.0) (snapshots_in snapshots.now n) }
-{
-    let mut i: usize = 0;
-    while i < n {
-        let s = snapshot_at(snapshots, i);
-        let known = is_kind(s.kind);
-        if !(known & (s.object.0 < next.0)) {
-            return false;
-        }
-        i += 1;
-    }
-    true
+    let s = snapshot_at(snapshots, i);
+    let known = is_kind(s.kind);
+    known & (s.object < next)
 }
 
 // "at least one snapshot; snapshot ids ascend strictly; times, schema versions and next ids never fall; change kinds are those below"
@@ -84,7 +52,7 @@ pub fn snapshots_rise(snapshots: &[u64], n: usize) -> bool
     }
     let latest = latest_snapshot(snapshots, n);
     let next = latest.next_catalog_id;
-    let a = snapshots_follow(snapshots, n);
-    let b = changes_sound(snapshots, n, next);
+    let a = (0..n - 1).all(|i| next_follows(snapshots, i));
+    let b = (0..n).all(|i| change_sound(snapshots, i, next));
     a & b
 }

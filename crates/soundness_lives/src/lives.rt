@@ -1,4 +1,4 @@
-ghost use Rattle.std.specs.Prelude.{◌≡◌, ◌+◌, ◌*◌, ◌≤◌, ◌<◌, length};
+ghost use Rattle.std.specs.Prelude.{◌≡◌, ◌+◌, ◌<◌};
 ghost use Rattle.lists.specs.Lists.{all};
 ghost use Rattle.layout.specs.Words.{Words, load, snapshots_in};
 ghost use Rattle.ducklake.specs.Soundness.{life_sound, lives_sound};
@@ -6,13 +6,14 @@ ghost use Rattle.lookup.specs.Order.{SnapshotsById};
 ghost use Rattle.lookup.specs.Versions.{with_life};
 ghost use Rattle.soundness_lives.specs.Lent.{lives_in, LivesLent};
 
-use layout::number::ABSENT;
+use layout::number::SnapshotId;
 use layout::outcome::Counts;
 use layout::record::{ColumnRecord, DataFileRecord, DeleteFileRecord, SchemaRecord, TableRecord};
 use lookup::find::latest_snapshot;
 use lookup::life::{Life, life_at};
 use lookup::live::is_live_at_some;
-use runs::hints::{Scale, hint};
+use runs::fields::Fields;
+use runs::hints::Scale;
 
 // "each begin and each end that isn't ABSENT is at most the latest snapshot id; begin < end; every record is live at some retained snapshot"
 fn life_sound(snapshots: &[u64], n: usize, l: Life, near: usize) -> bool
@@ -21,40 +22,24 @@ fn life_sound(snapshots: &[u64], n: usize, l: Life, near: usize) -> bool
 {
     let latest = latest_snapshot(snapshots, n);
     let some = is_live_at_some(snapshots, n, l, near);
-    (l.begin.0 <= latest.id.0)
-        & ((l.end.0 == ABSENT) | (l.end.0 <= latest.id.0))
-        & (l.begin.0 < l.end.0)
+    (l.begin <= latest.id)
+        & ((l.end == SnapshotId::ABSENT) | (l.end <= latest.id))
+        & (l.begin < l.end)
         & some
 }
 
-// The same of each of the first k records of a table: records of `size` words with a life from the word `at` on.
+// The same of each of the records of a table: their lives are their word `at` and the next.
 // One that began by the latest snapshot and has not ended is live at that one, and needs no search.
-fn all_lives_sound(
-    snapshots: &[u64],
-    n: usize,
-    scale: Scale,
-    hints: &[u16],
-    w: &[u64],
-    size: usize,
-    at: usize,
-    k: usize,
-) -> bool
-    requires { SnapshotsById snapshots.now n × (0 < n) × (scale.shift < 64) × (size * k ≤ length w.now) × (at + 1 < size) }
-    ensures { result ≡ all (life_sound (snapshots_in snapshots.now n)) (lives_in size at w.now k) }
+fn all_lives_sound(snapshots: &[u64], n: usize, scale: Scale, hints: &[u16], lives: Fields) -> bool
+    requires { SnapshotsById snapshots.now n × (0 < n) × (lives.at + 1 < lives.size) }
+    ensures { result ≡ all (life_sound (snapshots_in snapshots.now n)) (lives_in lives.entry.size lives.entry.at lives.entry.words.now lives.entry.n) }
 {
-    let latest = latest_snapshot(snapshots, n);
-    let last = latest.id.0;
-    let mut i: usize = 0;
-    while i < k {
-        let l = life_at(w, size, at, i);
-        i += 1;
-        let open = (l.begin.0 <= last) & (l.end.0 == ABSENT) & (last < l.end.0);
-        if !open {
-            let near = hint(scale, hints, l.begin.0);
-            let ok = life_sound(snapshots, n, l, near);
-            if !ok {
-                return false;
-            }
+    let last = latest_snapshot(snapshots, n).id;
+    for i in 0..lives.n {
+        let l = life_at(lives.words, lives.size, lives.at, i);
+        let open = (l.begin <= last) & (l.end == SnapshotId::ABSENT) & (last < l.end);
+        if !open && !life_sound(snapshots, n, l, scale.hint(hints, l.begin.0)) {
+            return false;
         }
     }
     true
@@ -72,7 +57,7 @@ pub fn lives_sound(
     scale: Scale,
     hints: &[u16],
 ) -> bool
-    requires { LivesLent snapshots.now schemas.now tables.now columns.now data_files.now delete_files.now counts × (scale.shift < 64) }
+    requires { LivesLent snapshots.now schemas.now tables.now columns.now data_files.now delete_files.now counts }
     ensures { (w : Words)
         → w.snapshots ≡ snapshots.now
         → w.schemas ≡ schemas.now
@@ -83,55 +68,40 @@ pub fn lives_sound(
         → result ≡ lives_sound (load w counts) }
 {
     let n = counts.snapshots;
-    let a = all_lives_sound(
-        snapshots,
-        n,
-        scale,
-        hints,
-        schemas,
-        SchemaRecord::SIZE,
-        SchemaRecord::BEGIN,
-        counts.schemas,
-    );
-    let b = all_lives_sound(
-        snapshots,
-        n,
-        scale,
-        hints,
-        tables,
-        TableRecord::SIZE,
-        TableRecord::BEGIN,
-        counts.tables,
-    );
-    let c = all_lives_sound(
-        snapshots,
-        n,
-        scale,
-        hints,
-        columns,
-        ColumnRecord::SIZE,
-        ColumnRecord::BEGIN,
-        counts.columns,
-    );
-    let d = all_lives_sound(
-        snapshots,
-        n,
-        scale,
-        hints,
-        data_files,
-        DataFileRecord::SIZE,
-        DataFileRecord::BEGIN,
-        counts.data_files,
-    );
-    let e = all_lives_sound(
-        snapshots,
-        n,
-        scale,
-        hints,
-        delete_files,
-        DeleteFileRecord::SIZE,
-        DeleteFileRecord::BEGIN,
-        counts.delete_files,
-    );
+    let of_schemas = Fields {
+        words: schemas,
+        size: SchemaRecord::SIZE,
+        at: SchemaRecord::BEGIN,
+        n: counts.schemas,
+    };
+    let a = all_lives_sound(snapshots, n, scale, hints, of_schemas);
+    let of_tables = Fields {
+        words: tables,
+        size: TableRecord::SIZE,
+        at: TableRecord::BEGIN,
+        n: counts.tables,
+    };
+    let b = all_lives_sound(snapshots, n, scale, hints, of_tables);
+    let of_columns = Fields {
+        words: columns,
+        size: ColumnRecord::SIZE,
+        at: ColumnRecord::BEGIN,
+        n: counts.columns,
+    };
+    let c = all_lives_sound(snapshots, n, scale, hints, of_columns);
+    let of_data_files = Fields {
+        words: data_files,
+        size: DataFileRecord::SIZE,
+        at: DataFileRecord::BEGIN,
+        n: counts.data_files,
+    };
+    let d = all_lives_sound(snapshots, n, scale, hints, of_data_files);
+    let of_delete_files = Fields {
+        words: delete_files,
+        size: DeleteFileRecord::SIZE,
+        at: DeleteFileRecord::BEGIN,
+        n: counts.delete_files,
+    };
+    let e = all_lives_sound(snapshots, n, scale, hints, of_delete_files);
     a & b & c & d & e
 }

@@ -1,74 +1,62 @@
-ghost use Rattle.std.specs.Prelude.{◌≡◌, ◌&&◌, List, ℕ, ◌+◌, ◌*◌, ◌≤◌, ◌<◌, eqb, length};
-ghost use Rattle.lists.specs.Lists.{all, any};
+ghost use Rattle.std.specs.Prelude.{◌≡◌, ◌&&◌, List, ℕ, ◌+◌, ◌*◌, ◌≤◌, ◌<◌, true, eqb, ltb, length};
+ghost use Rattle.lists.specs.Lists.{all, any, chained};
+ghost use Rattle.runs.specs.Fields.{values};
 ghost use Rattle.layout.specs.Fields.{table_size, column_size, data_file_size, delete_file_size};
-ghost use Rattle.layout.specs.Words.{Words, load, schemas_in, tables_in, column_at, columns_in, data_files_in, delete_file_at, delete_files_in};
+ghost use Rattle.layout.specs.Words.{Words, load, schemas_in, table_at, tables_in, column_at, columns_in, data_file_at, data_files_in, delete_file_at, delete_files_in};
 ghost use Rattle.ducklake.specs.Soundness.{contains, table_nests, column_nests, data_file_nests, delete_file_nests, lives_nest};
-ghost use Rattle.lookup.specs.Order.{ById, SchemasById, TablesById, DataFilesById};
+ghost use Rattle.lookup.specs.Order.{SchemasById, TablesById, DataFilesById};
 ghost use Rattle.lookup.specs.Versions.{with_life, versions_in};
 ghost use Rattle.soundness_lives.specs.Lent.{Nestable};
 
 use layout::outcome::Counts;
 use layout::record::{ColumnRecord, DataFileRecord, DeleteFileRecord, SchemaRecord, TableRecord};
-use lists::Found;
 use lookup::find::{find_data_file_near, find_table_near};
-use lookup::life::{Life, life_at, life_contains, same_life};
+use lookup::life::{Life, life_at, life_contains};
 use records::column::column_table;
 use records::data_file::data_file_table;
 use records::delete_file::{delete_file_data_file, delete_file_table};
 use records::table::table_schema;
-use runs::fields::find_near;
+use runs::fields::Fields;
 use runs::hints::place_at;
 
-// Whether the record of an id, most often at `near`, contains that life: records of `size` words with a life from the word `life` on.
-fn is_held(
-    w: &[u64],
-    size: usize,
-    id_word: usize,
-    life: usize,
-    n: usize,
-    id: u64,
-    l: Life,
-    near: usize,
-) -> bool
-    requires { ById size id_word w.now n × (life + 1 < size) }
-    ensures { result ≡ any (λ v. eqb v.id id && contains v (with_life l)) (versions_in size id_word life w.now n) }
+// Whether the record of an id, most often at `near`, contains that life, where ids ascend: records with a life from the word `life` on.
+fn is_held(ids: Fields, life: usize, id: u64, l: Life, near: usize) -> bool
+    requires { (chained ltb (values ids) ≡ true) × (life + 1 < ids.size) }
+    ensures { result ≡ any (λ v. eqb v.id id && contains v (with_life l))
+        (versions_in ids.entry.size ids.entry.at life ids.entry.words.now ids.entry.n) }
 {
-    let found = find_near(w, size, id_word, n, id, near);
+    let found = ids.find_near(id, near);
     match found {
-        Found::At(i) => {
-            let outer = life_at(w, size, life, i);
+        Some(i) => {
+            let outer = life_at(ids.words, ids.size, life, i);
             life_contains(outer, l)
         }
-        Found::Nothing => false,
+        None => false,
     }
 }
 
 // "a table's life lies within its schema's"
+// Stays: `is_held` is the one function of this and `data_file_nests`; each reads a record of its own type.
+fn table_nests(schemas: &[u64], n: usize, tables: &[u64], i: usize, near: usize) -> bool
+    requires { SchemasById schemas.now n × (table_size * i + table_size ≤ length tables.now) }
+    ensures { (s t : List ℕ) → result ≡ table_nests (schemas_in schemas.now s n) (table_at tables.now t i) }
+{
+    let schema = table_schema(tables, i);
+    let l = life_at(tables, TableRecord::SIZE, TableRecord::BEGIN, i);
+    let ids = Fields {
+        words: schemas,
+        size: SchemaRecord::SIZE,
+        at: SchemaRecord::ID,
+        n,
+    };
+    is_held(ids, SchemaRecord::BEGIN, schema.0, l, near)
+}
+
 fn tables_nest(schemas: &[u64], n: usize, tables: &[u64], m: usize, places: &[u16]) -> bool
     requires { SchemasById schemas.now n × (table_size * m ≤ length tables.now) }
     ensures { (s t : List ℕ) → result ≡ all (table_nests (schemas_in schemas.now s n)) (tables_in tables.now t m) }
 {
-    let mut i: usize = 0;
-    while i < m {
-        let near = place_at(places, i);
-        let schema = table_schema(tables, i);
-        let l = life_at(tables, TableRecord::SIZE, TableRecord::BEGIN, i);
-        let ok = is_held(
-            schemas,
-            SchemaRecord::SIZE,
-            SchemaRecord::ID,
-            SchemaRecord::BEGIN,
-            n,
-            schema.0,
-            l,
-            near,
-        );
-        if !ok {
-            return false;
-        }
-        i += 1;
-    }
-    true
+    (0..m).all(|i| table_nests(schemas, n, tables, i, place_at(places, i)))
 }
 
 // "a column's is its table's"
@@ -80,11 +68,11 @@ fn column_nests(tables: &[u64], n: usize, columns: &[u64], i: usize, near: usize
     let l = life_at(columns, ColumnRecord::SIZE, ColumnRecord::BEGIN, i);
     let found = find_table_near(tables, n, table, near);
     match found {
-        Found::At(j) => {
+        Some(j) => {
             let outer = life_at(tables, TableRecord::SIZE, TableRecord::BEGIN, j);
-            same_life(outer, l)
+            outer == l
         }
-        Found::Nothing => false,
+        None => false,
     }
 }
 
@@ -92,44 +80,30 @@ fn columns_nest(tables: &[u64], n: usize, columns: &[u64], m: usize, places: &[u
     requires { TablesById tables.now n × (column_size * m ≤ length columns.now) }
     ensures { (t c : List ℕ) → result ≡ all (column_nests (tables_in tables.now t n)) (columns_in columns.now c m) }
 {
-    let mut i: usize = 0;
-    while i < m {
-        let near = place_at(places, i);
-        let ok = column_nests(tables, n, columns, i, near);
-        if !ok {
-            return false;
-        }
-        i += 1;
-    }
-    true
+    (0..m).all(|i| column_nests(tables, n, columns, i, place_at(places, i)))
 }
 
 // "a data file's lies within its table's"
+fn data_file_nests(tables: &[u64], n: usize, data_files: &[u64], i: usize, near: usize) -> bool
+    requires { TablesById tables.now n × (data_file_size * i + data_file_size ≤ length data_files.now) }
+    ensures { (t : List ℕ) → result ≡ data_file_nests (tables_in tables.now t n) (data_file_at data_files.now i) }
+{
+    let table = data_file_table(data_files, i);
+    let l = life_at(data_files, DataFileRecord::SIZE, DataFileRecord::BEGIN, i);
+    let ids = Fields {
+        words: tables,
+        size: TableRecord::SIZE,
+        at: TableRecord::ID,
+        n,
+    };
+    is_held(ids, TableRecord::BEGIN, table.0, l, near)
+}
+
 fn data_files_nest(tables: &[u64], n: usize, data_files: &[u64], m: usize, places: &[u16]) -> bool
     requires { TablesById tables.now n × (data_file_size * m ≤ length data_files.now) }
     ensures { (t : List ℕ) → result ≡ all (data_file_nests (tables_in tables.now t n)) (data_files_in data_files.now m) }
 {
-    let mut i: usize = 0;
-    while i < m {
-        let near = place_at(places, i);
-        let table = data_file_table(data_files, i);
-        let l = life_at(data_files, DataFileRecord::SIZE, DataFileRecord::BEGIN, i);
-        let ok = is_held(
-            tables,
-            TableRecord::SIZE,
-            TableRecord::ID,
-            TableRecord::BEGIN,
-            n,
-            table.0,
-            l,
-            near,
-        );
-        if !ok {
-            return false;
-        }
-        i += 1;
-    }
-    true
+    (0..m).all(|i| data_file_nests(tables, n, data_files, i, place_at(places, i)))
 }
 
 // "a delete file's within its data file's, and their table ids match"
@@ -153,13 +127,13 @@ fn delete_file_nests(
     );
     let found = find_data_file_near(data_files, n, file, near);
     match found {
-        Found::At(j) => {
+        Some(j) => {
             let of_file = data_file_table(data_files, j);
             let outer = life_at(data_files, DataFileRecord::SIZE, DataFileRecord::BEGIN, j);
             let held = life_contains(outer, l);
-            (of_file.0 == table.0) & held
+            (of_file == table) & held
         }
-        Found::Nothing => false,
+        None => false,
     }
 }
 
@@ -174,16 +148,7 @@ fn delete_files_nest(
     ensures { (p : List ℕ)
         → result ≡ all (delete_file_nests (data_files_in data_files.now n)) (delete_files_in delete_files.now p m) }
 {
-    let mut i: usize = 0;
-    while i < m {
-        let near = place_at(places, i);
-        let ok = delete_file_nests(data_files, n, delete_files, i, near);
-        if !ok {
-            return false;
-        }
-        i += 1;
-    }
-    true
+    (0..m).all(|i| delete_file_nests(data_files, n, delete_files, i, place_at(places, i)))
 }
 
 // Every record's life stands to that of the record it belongs to as it should. Of the records of each kind there are the places where those that they belong to

@@ -1,6 +1,5 @@
 -- The statistics of a file, passed through together with the columns of its table: both stand together, by ascending column id.
-use Rattle.std.proofs.Common.{◌≡◌, ℕ, ◌+◌, ◌<◌, ◌≤◌, Bool, true, false, not, eqb, List, sym, refl, ap, ◌∙◌, ap₂}
-use Rattle.lists.specs.declared.Found.{Found}
+use Rattle.std.proofs.Common.{◌≡◌, ℕ, ◌+◌, ◌<◌, ◌≤◌, Bool, true, false, not, eqb, List, sym, refl, ap, ◌∙◌, ap₂, Option}
 use Rattle.lists.specs.Lists.{range, filter, agree}
 use Rattle.lists.specs.Runs.{at, field, fields, from, Together}
 use Rattle.lists.proofs.Blocks.{filter_block, filter_key}
@@ -70,13 +69,13 @@ judged_start columns names n statistics m file {a} {e} {x} {y} f g =
     judged_all columns names (statistics_at statistics) _ _ e y a x (filter_block (column_at columns names) (λ c. c.body.table) file.table.0 n a e f (live file.begin.0))
     (filter_key (statistics_at statistics) (λ s. s.data_file) file.id.0 m x y g)
 
--- the test of a file that was read
-pub file_read : (cs : List (Versioned Column)) (xs : List Statistics) {f g : DataFileRecord} {b : Bool}
-    → f ≡ g → b ≡ file_statistics_sound cs xs (data_file_of f) → b ≡ file_statistics_sound cs xs (data_file_of g)
-file_read cs xs e h = rw e at h
+-- the test of a file that was read, and its outcome
+pub file_read : (cs : List (Versioned Column)) (xs : List Statistics) {f g : DataFileRecord} {b t : Bool}
+    → f ≡ g → b ≡ file_statistics_sound cs xs (data_file_of f) → b ≡ t → file_statistics_sound cs xs (data_file_of g) ≡ t
+file_read cs xs e h k = sym (rw e at h) ∙ k
 
 -- a file of that id is there just where it has a place
-pub on_file_lem : (files : List ℕ) (n : ℕ) (v : Statistics) {x : ℕ} {r : Found} → x ≡ v.data_file → r ≡ place_of data_file_size data_file_id_word files n x
+pub on_file_lem : (files : List ℕ) (n : ℕ) (v : Statistics) {x : ℕ} {r : Option ℕ} → x ≡ v.data_file → r ≡ place_of data_file_size data_file_id_word files n x
     → statistics_on_file (data_files_in files n) v ≡ is_at r
 unfolding field statistics_on_file
 on_file_lem files n v {x} e f =

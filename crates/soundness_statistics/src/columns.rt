@@ -18,10 +18,9 @@ fn columns_counted(tables: &[u64], n: usize, columns: &[u64], m: usize) -> bool
     requires { (table_size * n ≤ length tables.now) × ColumnsByTable columns.now m }
     ensures { (t c : List ℕ) → result ≡ all (columns_counted (columns_in columns.now c m)) (tables_in tables.now t n) }
 {
-    let mut i: usize = 0;
     let mut near: usize = 0;
     let mut last: usize = 0;
-    while i < n {
+    for i in 0..n {
         let table = table_id(tables, i);
         let own = columns_between(columns, m, table, near, last);
         near = own.end;
@@ -30,7 +29,6 @@ fn columns_counted(tables: &[u64], n: usize, columns: &[u64], m: usize) -> bool
         if !((1 <= k) & (k <= COLUMN_LIMIT)) {
             return false;
         }
-        i += 1;
     }
     true
 }

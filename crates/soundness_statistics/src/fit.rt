@@ -10,6 +10,7 @@ use layout::record::{ColumnRecord, StatisticsRecord};
 use lookup::life::{Life, is_live};
 
 // Whether a file that begins at s has statistics of the column: "each column live at its begin".
+#[tactic(auto, unfolding(ducklake::specs::Liveness::live))]
 pub fn statistics_wanted(column: ColumnRecord, s: SnapshotId) -> bool
     ensures { (name : List ℕ) → result ≡ live s.0 (column_of column name) }
 {
@@ -19,6 +20,7 @@ pub fn statistics_wanted(column: ColumnRecord, s: SnapshotId) -> bool
 }
 
 // A bound: its flag, and "0 where the flag is 0"; "Given values lie in the type's range".
+#[tactic(auto, unfolding(ducklake::specs::Soundness::bound_fits))]
 pub fn bound_fits(type_code: u64, flag: u64, word: u64) -> bool
     ensures { result ≡ bound_fits type_code flag word }
 {
@@ -29,6 +31,7 @@ pub fn bound_fits(type_code: u64, flag: u64, word: u64) -> bool
 
 // The statistics of a column in a file of so many rows: "null_count ≤ record_count, and 0 where nulls aren't allowed. If all rows are null, min
 // and max are missing; else either may be missing. Given values lie in the type's range, min ≤ max."
+#[tactic(auto, unfolding(ducklake::specs::Soundness::statistics_fit))]
 pub fn statistics_fit(rows: u64, column: ColumnRecord, x: StatisticsRecord) -> bool
     ensures { (name : List ℕ) → result ≡ statistics_fit rows (column_of column name) (statistics_of x) }
 {

@@ -9,9 +9,9 @@ ghost use Rattle.lookup.specs.Order.{ColumnsByTable, DataFilesById, StatisticsBy
 ghost use Rattle.soundness_statistics.specs.Checkable.{StatisticsCheckable};
 
 use crate::fit::{statistics_fit, statistics_wanted};
+use layout::number::FileId;
 use layout::outcome::Counts;
 use layout::record::DataFileRecord;
-use lists::Found;
 use lookup::block::{Block, columns_between, statistics_between};
 use lookup::find::find_data_file_near;
 use lookup::places::block_start;
@@ -37,23 +37,22 @@ fn file_statistics_sound(
     ensures { (names : List ℕ)
         → result ≡ file_statistics_sound (columns_in columns.now names n) (statistics_in statistics.now m) (data_file_of file) }
 {
-    let mut c = own.start;
     let mut x = given.start;
-    while c < own.end {
+    for c in own.start..own.end {
         let column = column_at(columns, c);
-        c += 1;
         let wanted = statistics_wanted(column, file.begin);
-        if wanted {
-            if given.end <= x {
-                return false;
-            }
-            let s = statistics_at(statistics, x);
-            let ok = statistics_fit(file.record_count, column, s);
-            if !ok {
-                return false;
-            }
-            x += 1;
+        if !wanted {
+            continue;
         }
+        if given.end <= x {
+            return false;
+        }
+        let s = statistics_at(statistics, x);
+        let ok = statistics_fit(file.record_count, column, s);
+        if !ok {
+            return false;
+        }
+        x += 1;
     }
     x == given.end
 }
@@ -75,9 +74,8 @@ fn all_file_statistics_sound(
 {
     let n = counts.columns;
     let m = counts.statistics;
-    let mut i: usize = 0;
     let mut near: usize = 0;
-    while i < counts.data_files {
+    for i in 0..counts.data_files {
         let file = data_file_at(data_files, i);
         let place = place_at(places, i);
         let first = block_start(starts, place, n);
@@ -90,7 +88,6 @@ fn all_file_statistics_sound(
         if !ok {
             return false;
         }
-        i += 1;
     }
     true
 }
@@ -100,21 +97,19 @@ fn statistics_on_files(data_files: &[u64], n: usize, statistics: &[u64], m: usiz
     requires { DataFilesById data_files.now n × (statistics_size * m ≤ length statistics.now) }
     ensures { result ≡ all (statistics_on_file (data_files_in data_files.now n)) (statistics_in statistics.now m) }
 {
-    let mut i: usize = 0;
     let mut near: usize = 0;
-    let mut last: u64 = 0;
-    while i < m {
+    let mut last = FileId(0);
+    for i in 0..m {
         let file = statistics_data_file(statistics, i);
-        if file.0 != last {
+        if file != last {
             near = wrapping_add_usize(near, 1);
         }
-        last = file.0;
+        last = file;
         let found = find_data_file_near(data_files, n, file, near);
-        let Found::At(j) = found else {
+        let Some(j) = found else {
             return false;
         };
         near = j;
-        i += 1;
     }
     true
 }

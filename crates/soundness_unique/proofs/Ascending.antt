@@ -13,7 +13,7 @@ use Rattle.lists.proofs.Tests.{Reflects, either, or_right, reflects_ltb, reflect
 use Rattle.lists.proofs.Orders.{chained_pairwise, pairwise_as}
 use Rattle.lists.proofs.Selections.{pairwise_map}
 use Rattle.layout.specs.Fields.{column_size, column_table_word, column_order_word, column_begin_word}
-use Rattle.soundness_unique.specs.declared.naming.Group.TheVariants.{With}
+use Rattle.std.specs.Prelude.{Some}
 use Rattle.soundness_unique.specs.Naming.{live_together, names_apart_at, orders_apart_at}
 
 -- what holds of any two places in order, by what is read there, holds of every two, if those that follow each other are in order
@@ -24,10 +24,10 @@ in_order_all r f s n t h e =
 
 -- where tables ascend, no two columns are of one table
 pub tables_ascend : (run names : List ℕ) (n : ℕ) → chained ltb (fields column_size column_table_word run n) ≡ true
-    → pairwise (names_apart_at column_size (With column_table_word) column_begin_word run names) (range 0 n) ≡ true
+    → pairwise (names_apart_at column_size (Some column_table_word) column_begin_word run names) (range 0 n) ≡ true
 tables_ascend run names n e =
     let f = field column_size column_table_word run in
-    in_order_all ltb f (names_apart_at column_size (With column_table_word) column_begin_word run names) n
+    in_order_all ltb f (names_apart_at column_size (Some column_table_word) column_begin_word run names) n
     (λ a b c s t. lt-ltb a c (omega (arith, ltb-true a b s, ltb-true b c t)))
     (λ i j h. rw (ne_eqb (f i) (f j) (λ (q : f i ≡ f j). omega (arith, ltb-true (f i) (f j) h)))) e
 

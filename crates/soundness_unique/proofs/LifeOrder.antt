@@ -8,17 +8,18 @@ use native.Mathlib.Omega.{arith}
 use lib.Dec.{leb, ltb, eqb}
 use lib.ListN.{length, get_or}
 use borrow.Author.Tests.{ltb-true, lt-ltb, le-ltb, eqb-true, le-leb, leb-true, leb-false, not-true}
-use Rattle.lists.specs.Lists.{pairwise, chained, all}
+use Rattle.std.specs.Borrow.{Bor}
+use Rattle.lists.specs.Lists.{all}
 use Rattle.lists.specs.Runs.{field}
 use Rattle.lists.proofs.Tests.{Reflects, if, either, both, and, clash, or_left, or_right, or_cases, reflects_it, reflects_implies}
 use Rattle.lists.proofs.Loops.{from_step, from_end, from_length}
 use Rattle.lists.proofs.Places.{from_split}
 use Rattle.ducklake.specs.Soundness.{overlap}
-use Rattle.sorting.specs.Colliding.{prefix_at, same_prefix, Thinned}
-use Rattle.sorting.specs.Keys.{key_at, at_most, same_words, in_order, Keyed}
-use Rattle.sorting.specs.Sorting.{Permutes}
-use Rattle.sorting.proofs.Groups.{groups_sorted}
-use Rattle.sorting.proofs.KeyOrder.{same_words_lem, same_swap, most_between, order_trans}
+use Rattle.sorting.specs.Colliding.{prefix_at, same_prefix}
+use Rattle.sorting.specs.Keys.{key_at, at_most, same_words, in_order}
+use Rattle.sorting.specs.Ordered.{Decided}
+use Rattle.sorting.proofs.Groups.{groups_between}
+use Rattle.sorting.proofs.KeyOrder.{same_words_lem, same_swap, most_between}
 use Rattle.soundness_unique.specs.Naming.{keys_apart, Living, keyed_at}
 
 -- a word more behind lists of one length: the lists are in order, and where they are equal so are the words
@@ -94,18 +95,21 @@ module _ (used : ℕ) (keys : List ℕ) (size begin : ℕ) (run : List ℕ) {n :
   forward i j k l o e b =
       absurd (omega (arith, (order_told i j o).1 (same_words_lem (first_words i) (first_words j) e), (keyed i k).1, (keyed j l).1, leb-true (ends j) (starts i) b, lives j l))
 
-  pub lives_sorted : {xs ys : List ℕ} → all (keyed_at used keys size begin run n) xs ≡ true → Permutes ys xs → chained (in_order (used + 1) keys) ys ≡ true
-      → chained (keys_apart used keys size begin run) ys ≡ pairwise (keys_apart used keys size begin run) xs
-  lives_sorted {xs} {ys} w p o =
-      groups_sorted (in_order (used + 1) keys) (keys_apart used keys size begin run) (same_prefix used (used + 1) keys) (λ i j. leb (ends i) (starts j)) (keyed_at used keys size begin run n)
-      (order_trans (used + 1) keys) told flip (λ a b c k l. same_between (first_words a) (first_words b) (first_words c) (order_told a b k).0 (order_told b c l).0)
-      forward (λ a b c k s t. le-leb (ends a) (starts c) (omega (arith, leb-true (ends a) (starts b) s, leb-true (ends b) (starts c) t, lives b k))) xs ys p w o
+  lives_between : (a b c : ℕ) → keyed_at used keys size begin run n a ≡ true → keyed_at used keys size begin run n b ≡ true → keyed_at used keys size begin run n c ≡ true
+      → in_order (used + 1) keys a b ≡ true → in_order (used + 1) keys b c ≡ true → keys_apart used keys size begin run a b ≡ true → keys_apart used keys size begin run b c ≡ true
+      → keys_apart used keys size begin run a c ≡ true
+  lives_between =
+      groups_between (in_order (used + 1) keys) (keys_apart used keys size begin run) (same_prefix used (used + 1) keys) (λ i j. leb (ends i) (starts j)) (keyed_at used keys size begin run n)
+      told (λ a b c k l. same_between (first_words a) (first_words b) (first_words c) (order_told a b k).0 (order_told b c l).0)
+      forward (λ a b c k s t. le-leb (ends a) (starts c) (omega (arith, leb-true (ends a) (starts b) s, leb-true (ends b) (starts c) t, lives b k)))
 
--- and so where some places were left out
-pub lives_thinned : (used : ℕ) (keys : List ℕ) (size begin : ℕ) (run : List ℕ) {xs ys : List ℕ} → Thinned (used + 1) used keys xs ys
-    → pairwise (keys_apart used keys size begin run) ys ≡ pairwise (keys_apart used keys size begin run) xs
-lives_thinned used keys size begin run t = t.decided (keys_apart used keys size begin run) (λ i j e. rw e refl)
-
--- records at the places that are left
-pub thinned_lent : (size : ℕ) (run : List ℕ) {width used : ℕ} {keys a b : List ℕ} → Thinned width used keys a b → Keyed size run a → Keyed size run b
-thinned_lent size run t k = record { keyed = t.within (λ p. leb (size * p + size) (length run)) k.keyed }
+-- so those that follow each other decide, by keys of which the begin is the last word
+pub lives_decided : (used : ℕ) (keys : Bor (List ℕ)) (size begin : ℕ) (run : List ℕ) {n : ℕ} → Living size begin run n → (xs : List ℕ) → all (keyed_at used keys.now size begin run n) xs ≡ true
+    → Decided (record { words = keys; size = used + 1 }) used (keys_apart used keys.now size begin run) xs
+lives_decided used keys size begin run {n} h xs m = record {
+  passes = keyed_at used keys.now size begin run n;
+  pass = m;
+  swapped = flip used keys.now size begin run h;
+  other = λ i j _ _ e. rw e refl;
+  between = lives_between used keys.now size begin run h;
+}

@@ -20,17 +20,17 @@ use Rattle.layout.specs.Words.{schema_at, schemas_in, table_at, tables_in, colum
 use Rattle.ducklake.specs.Soundness.{overlap, schemas_apart, tables_apart, columns_apart}
 use Rattle.names.specs.NameWords.{name_word, name_words}
 use Rattle.names.proofs.NameWords.{words_agree}
+use Rattle.sorting.specs.declared.colliding.Round.TheVariants.{First}
 use Rattle.sorting.specs.Colliding.{prefix_at, same_prefix, mixed, digest, hashed, Kept}
 use Rattle.sorting.specs.Keys.{Keyed, Put}
 use Rattle.sorting.proofs.KeyOrder.{same_words_lem}
-use Rattle.soundness_unique.specs.declared.naming.Group.{Group}
-use Rattle.soundness_unique.specs.declared.naming.Group.TheVariants.{All, With}
+use Rattle.std.specs.Prelude.{Option, None, Some}
 use Rattle.soundness_unique.specs.Naming.{name_key_size, name_key_begin, order_key_size, order_key_begin, group_of, is_inside, name_words_at, name_hash, name_key, order_hash, order_key, KeysPut, live_together, keys_apart, names_apart_at, orders_apart_at, Living, keyed_at, NamesLiving}
 use Rattle.soundness_unique.specs.Comparable.{Named}
 use Rattle.soundness_unique.proofs.LeftPlaces.{left_below, left_apart}
 
 -- the word of a group
-pub group_inside : {g : Group} {word size : ℕ} → g ≡ With word → is_inside g size ≡ true → word < size
+pub group_inside : {g : Option ℕ} {word size : ℕ} → g ≡ Some word → is_inside g size ≡ true → word < size
 group_inside {word = word} {size = size} e h = ltb-true word size (rw e at h)
 
 pub pairwise_both : {A : Type 0} (r s : A → A → Bool) (xs : List A) → pairwise (λ a b. r a b && s a b) xs ≡ (pairwise r xs && pairwise s xs)
@@ -53,34 +53,34 @@ apart_of true false false = refl
 apart_of false b c = refl
 
 -- the digest of a group and the words of a name
-pub name_digest : (size : ℕ) (group : Group) (run names : List ℕ) (i : ℕ) {g x₀ x₁ x₂ x₃ a b c d e : ℕ} → g ≡ group_of group size run i
+pub name_digest : (size : ℕ) (group : Option ℕ) (run names : List ℕ) (i : ℕ) {g x₀ x₁ x₂ x₃ a b c d e : ℕ} → g ≡ group_of group size run i
     → x₀ ≡ name_word (name_at names i) 0 → x₁ ≡ name_word (name_at names i) 1 → x₂ ≡ name_word (name_at names i) 2 → x₃ ≡ name_word (name_at names i) 3
-    → a ≡ (mixed false 0 + g) % 2 ^ 64 → b ≡ (mixed false a + x₀) % 2 ^ 64 → c ≡ (mixed false b + x₁) % 2 ^ 64 → d ≡ (mixed false c + x₂) % 2 ^ 64
-    → e ≡ (mixed false d + x₃) % 2 ^ 64 → e ≡ digest false 0 (name_words_at size group run names i)
+    → a ≡ (mixed First 0 + g) % 2 ^ 64 → b ≡ (mixed First a + x₀) % 2 ^ 64 → c ≡ (mixed First b + x₁) % 2 ^ 64 → d ≡ (mixed First c + x₂) % 2 ^ 64
+    → e ≡ (mixed First d + x₃) % 2 ^ 64 → e ≡ digest First 0 (name_words_at size group run names i)
 unfolding digest range
 name_digest size group run names i u o p q r j k l m n = rw (n, m, l, k, j, u, o, p, q, r) refl
 
 -- the words of a key
-pub name_key_lem : (size : ℕ) (group : Group) (begin : ℕ) (run names : List ℕ) (i : ℕ) {g x₀ x₁ x₂ x₃ b : ℕ} → g ≡ group_of group size run i
+pub name_key_lem : (size : ℕ) (group : Option ℕ) (begin : ℕ) (run names : List ℕ) (i : ℕ) {g x₀ x₁ x₂ x₃ b : ℕ} → g ≡ group_of group size run i
     → x₀ ≡ name_word (name_at names i) 0 → x₁ ≡ name_word (name_at names i) 1 → x₂ ≡ name_word (name_at names i) 2 → x₃ ≡ name_word (name_at names i) 3 → b ≡ field size begin run i
     → (g ∷ (x₀ ∷ (x₁ ∷ (x₂ ∷ (x₃ ∷ (b ∷ [])))))) ≡ name_key size group begin run names i
 unfolding range
 name_key_lem size group begin run names i o p q r s t = rw (o, p, q, r, s, t) refl
 
 -- a key has so many words
-pub name_key_length : (size : ℕ) (group : Group) (begin : ℕ) (run names : List ℕ) (i : ℕ) → length (name_key size group begin run names i) ≡ name_key_size
+pub name_key_length : (size : ℕ) (group : Option ℕ) (begin : ℕ) (run names : List ℕ) (i : ℕ) → length (name_key size group begin run names i) ≡ name_key_size
 unfolding range
 name_key_length size group begin run names i = refl
 
 -- of as many records as there are places
-pub names_as_long : {size : ℕ} {group : Group} {begin : ℕ} {run names : List ℕ} {l n : ℕ} → l ≡ n → NamesLiving size group begin run names n → NamesLiving size group begin run names l
+pub names_as_long : {size : ℕ} {group : Option ℕ} {begin : ℕ} {run names : List ℕ} {l n : ℕ} → l ≡ n → NamesLiving size group begin run names n → NamesLiving size group begin run names l
 names_as_long e h = rw e h
 
 pub pairs_as_long : (s : ℕ → ℕ → Bool) {l n : ℕ} {r : Bool} → l ≡ n → r ≡ pairwise s (range 0 l) → r ≡ pairwise s (range 0 n)
 pairs_as_long s e f = f ∙ ap (λ (l : ℕ). pairwise s (range 0 l)) e
 
 -- two records of one group and one name have one hash
-hash_tells : (size : ℕ) (group : Group) (begin : ℕ) (run names : List ℕ) (i j : ℕ) → (name_hash size group run names i ≡ name_hash size group run names j → ⊥)
+hash_tells : (size : ℕ) (group : Option ℕ) (begin : ℕ) (run names : List ℕ) (i j : ℕ) → (name_hash size group run names i ≡ name_hash size group run names j → ⊥)
     → names_apart_at size group begin run names i j ≡ true
 unfolding same_name
 hash_tells size group begin run names i j d =
@@ -89,11 +89,11 @@ hash_tells size group begin run names i j d =
     sym (apart_of g (live_together size begin run i j) s)
     ∙ if (g && s)
     (λ t. let b = both g s t in
-    absurd (d (ap₂ (λ (k : ℕ) (xs : List ℕ). hashed false (digest false 0 (k ∷ name_words xs))) (eqb-true _ _ b.0) (same_words_lem (name_at names i) (name_at names j) b.1))))
+    absurd (d (ap₂ (λ (k : ℕ) (xs : List ℕ). hashed First (digest First 0 (k ∷ name_words xs))) (eqb-true _ _ b.0) (same_words_lem (name_at names i) (name_at names j) b.1))))
     (λ t. rw t refl)
 
 -- keys put for places left by hashes decide names
-module _ {size : ℕ} {group : Group} {begin : ℕ} {run names : List ℕ} {n : ℕ} (h : NamesLiving size group begin run names n) {left keys : List ℕ}
+module _ {size : ℕ} {group : Option ℕ} {begin : ℕ} {run names : List ℕ} {n : ℕ} (h : NamesLiving size group begin run names n) {left keys : List ℕ}
     (k : Kept (name_hash size group run names) (range 0 n) left) (p : KeysPut (name_key size group begin run names) name_key_size left keys) where
   name_words_lem : (i : ℕ) → In i left → prefix_at name_key_begin name_key_size keys i ≡ name_words_at size group run names i
   unfolding range
@@ -145,7 +145,7 @@ order_tells run i j d =
     let s = eqb (field column_size column_order_word run i) (field column_size column_order_word run j) in
     sym (apart_of g (live_together column_size column_begin_word run i j) s)
     ∙ if (g && s)
-    (λ t. let b = both g s t in absurd (d (ap₂ (λ (k l : ℕ). hashed false (digest false 0 (k ∷ (l ∷ [])))) (eqb-true _ _ b.0) (eqb-true _ _ b.1))))
+    (λ t. let b = both g s t in absurd (d (ap₂ (λ (k l : ℕ). hashed First (digest First 0 (k ∷ (l ∷ [])))) (eqb-true _ _ b.0) (eqb-true _ _ b.1))))
     (λ t. rw t refl)
 
 -- keys put for places left by hashes decide orders
@@ -178,7 +178,7 @@ module _ {run : List ℕ} {n : ℕ} (h : Living column_size column_begin_word ru
 -- what the tables with names come to
 
 module _ {schemas schema_names tables table_names columns column_names : List ℕ} {counts : Counts} (h : Named schemas schema_names tables table_names columns column_names counts) where
-  pub schemas_living : NamesLiving schema_size All schema_begin_word schemas schema_names counts.schemas
+  pub schemas_living : NamesLiving schema_size None schema_begin_word schemas schema_names counts.schemas
   unfolding field
   schemas_living = record {
     living = record { lent = h.schemas_lent; inside = omega arith; lives = λ i l. ltb-true _ _ (all-at (schema_at schemas schema_names) _ counts.schemas i h.schemas_live l) };
@@ -187,7 +187,7 @@ module _ {schemas schema_names tables table_names columns column_names : List �
     named = λ i l. all-at (schema_at schemas schema_names) _ counts.schemas i h.schemas_named l;
   }
 
-  pub tables_living : NamesLiving table_size (With table_schema_word) table_begin_word tables table_names counts.tables
+  pub tables_living : NamesLiving table_size (Some table_schema_word) table_begin_word tables table_names counts.tables
   unfolding field
   tables_living = record {
     living = record { lent = h.tables_lent; inside = omega arith; lives = λ i l. ltb-true _ _ (all-at (table_at tables table_names) _ counts.tables i h.tables_live l) };
@@ -196,7 +196,7 @@ module _ {schemas schema_names tables table_names columns column_names : List �
     named = λ i l. all-at (table_at tables table_names) _ counts.tables i h.tables_named l;
   }
 
-  pub columns_living : NamesLiving column_size (With column_table_word) column_begin_word columns column_names counts.columns
+  pub columns_living : NamesLiving column_size (Some column_table_word) column_begin_word columns column_names counts.columns
   unfolding field
   columns_living = record {
     living = record { lent = h.columns_lent; inside = omega arith; lives = λ i l. ltb-true _ _ (all-at (column_at columns column_names) _ counts.columns i h.columns_live l) };
@@ -206,11 +206,11 @@ module _ {schemas schema_names tables table_names columns column_names : List �
   }
 
 module _ (run names : List ℕ) (n : ℕ) where
-  pub schemas_are : pairwise (names_apart_at schema_size All schema_begin_word run names) (range 0 n) ≡ pairwise schemas_apart (schemas_in run names n)
+  pub schemas_are : pairwise (names_apart_at schema_size None schema_begin_word run names) (range 0 n) ≡ pairwise schemas_apart (schemas_in run names n)
   unfolding field overlap schemas_apart
   schemas_are = sym (pairwise_map schemas_apart (schema_at run names) (range 0 n))
 
-  pub tables_are : pairwise (names_apart_at table_size (With table_schema_word) table_begin_word run names) (range 0 n) ≡ pairwise tables_apart (tables_in run names n)
+  pub tables_are : pairwise (names_apart_at table_size (Some table_schema_word) table_begin_word run names) (range 0 n) ≡ pairwise tables_apart (tables_in run names n)
   unfolding field overlap tables_apart
   tables_are = sym (pairwise_map tables_apart (table_at run names) (range 0 n))
 
@@ -218,12 +218,12 @@ module _ (run names : List ℕ) (n : ℕ) where
   both_differ true s q = refl
   both_differ false s q = refl
 
-  pub columns_are : (pairwise (names_apart_at column_size (With column_table_word) column_begin_word run names) (range 0 n) && pairwise (orders_apart_at run) (range 0 n))
+  pub columns_are : (pairwise (names_apart_at column_size (Some column_table_word) column_begin_word run names) (range 0 n) && pairwise (orders_apart_at run) (range 0 n))
       ≡ pairwise columns_apart (columns_in run names n)
   unfolding field overlap columns_apart
   columns_are =
-      sym (pairwise_both (names_apart_at column_size (With column_table_word) column_begin_word run names) (orders_apart_at run) (range 0 n))
-      ∙ (pairwise_ext (λ i j. names_apart_at column_size (With column_table_word) column_begin_word run names i j && orders_apart_at run i j) (λ i j. columns_apart (column_at run names i) (column_at run names j)) (range 0 n)
+      sym (pairwise_both (names_apart_at column_size (Some column_table_word) column_begin_word run names) (orders_apart_at run) (range 0 n))
+      ∙ (pairwise_ext (λ i j. names_apart_at column_size (Some column_table_word) column_begin_word run names i j && orders_apart_at run i j) (λ i j. columns_apart (column_at run names i) (column_at run names j)) (range 0 n)
       (λ i j _ _. both_differ (not (eqb (field column_size column_table_word run i) (field column_size column_table_word run j)) || not (live_together column_size column_begin_word run i j))
       (not (same_name (name_at names i) (name_at names j))) (not (eqb (field column_size column_order_word run i) (field column_size column_order_word run j))))
       ∙ sym (pairwise_map columns_apart (column_at run names) (range 0 n)))

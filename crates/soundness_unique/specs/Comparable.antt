@@ -1,5 +1,5 @@
 -- What the functions rely on, named.
-use Rattle.std.specs.Prelude.{ℕ, ◌*◌, ◌≤◌, ◌<◌, ◌≡◌, true, List, ltb, length}
+use Rattle.std.specs.Prelude.{ℕ, ◌+◌, ◌*◌, ◌≤◌, ◌<◌, ◌≡◌, true, List, ltb, length}
 use Rattle.lists.specs.Lists.{all}
 use Rattle.layout.specs.declared.outcome.Counts.{Counts}
 use Rattle.layout.specs.Fields.{snapshot_size, schema_size, table_size, column_size, data_file_size, delete_file_size, scheduled_size}
@@ -53,6 +53,17 @@ pub record FilesPuttable (counts : Counts) (words : FileWords) (size at : ℕ) (
   pub present : all (λ p. ltb p (file_count counts)) places ≡ true
   pub room : size * file_count counts ≤ length keys
   pub within : at < size
+
+-- `size` words of a record of each table, and those of files at some places with room for keys of them
+pub record KeyWordsInside (words : FileWords) (size : ℕ) : Type 0 where
+  pub in_data_file : words.data_file + size ≤ data_file_size
+  pub in_delete_file : words.delete_file + size ≤ delete_file_size
+  pub in_scheduled : words.scheduled + size ≤ scheduled_size
+
+pub record FileKeysPuttable (counts : Counts) (words : FileWords) (size : ℕ) (places keys : List ℕ) : Type 0 where
+  pub inside : KeyWordsInside words size
+  pub present : all (λ p. ltb p (file_count counts)) places ≡ true
+  pub room : size * file_count counts ≤ length keys
 
 -- scratch for keys of one or two words, and as many places as there are files
 pub record FilesSortable (counts : Counts) (keys w v : List ℕ) : Type 0 where

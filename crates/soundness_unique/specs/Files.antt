@@ -1,13 +1,14 @@
 -- The ids and UUIDs of each table of files, and lists in which none is twice.
 use Rattle.std.specs.Prelude.{ℕ, ◌+◌, ◌-◌, ◌%◌, Bool, false, cond, not, ◌&&◌, List, [], ◌∷◌, map, ltb, eqb}
 use Rattle.lists.specs.Lists.{range, pairwise}
-use Rattle.lists.specs.Runs.{field, fields}
+use Rattle.lists.specs.Runs.{field, fields, from}
 use Rattle.layout.specs.declared.outcome.Counts.{Counts}
 use Rattle.layout.specs.declared.record.Uuid.{Uuid}
 use Rattle.layout.specs.Fields.{data_file_size, data_file_id_word, data_file_uuid_high_word, delete_file_size, delete_file_id_word, delete_file_uuid_high_word, scheduled_size, scheduled_file_word, scheduled_uuid_high_word}
 use Rattle.layout.specs.Records.{uuid_of}
 use Rattle.layout.specs.Words.{data_files_in, delete_files_in, scheduled_in}
 use Rattle.ducklake.specs.Soundness.{ids_of_files, uuids_of_files, same_uuid}
+use Rattle.sorting.specs.declared.colliding.Round.TheVariants.{First}
 use Rattle.sorting.specs.Colliding.{digest, hash_limit, hashed}
 use Rattle.soundness_unique.specs.declared.distinct.FileWords.{FileWords}
 
@@ -67,12 +68,19 @@ low_words = record { data_file = data_file_uuid_high_word + 1; delete_file = del
 abbrev pub uuid_words : List ℕ → List ℕ → List ℕ → Counts → ℕ → List ℕ
 uuid_words d e x c p = file_word d e x c high_words p ∷ (file_word d e x c low_words p ∷ [])
 
+-- the word so many words on, and a key of `size` words from a word on
+abbrev pub shifted : FileWords → ℕ → FileWords
+shifted words k = record { data_file = words.data_file + k; delete_file = words.delete_file + k; scheduled = words.scheduled + k }
+
+abbrev pub file_key : List ℕ → List ℕ → List ℕ → Counts → FileWords → ℕ → ℕ → List ℕ
+file_key d e x c words size p = from (λ k. file_word d e x c (shifted words k) p) 0 size
+
 -- the hashes of both
 abbrev pub id_hash : List ℕ → List ℕ → List ℕ → Counts → ℕ → ℕ
 id_hash d e x c p = file_word d e x c id_words p % hash_limit
 
 abbrev pub uuid_hash : List ℕ → List ℕ → List ℕ → Counts → ℕ → ℕ
-uuid_hash d e x c p = hashed false (digest false 0 (uuid_words d e x c p))
+uuid_hash d e x c p = hashed First (digest First 0 (uuid_words d e x c p))
 
 -- "no file id or UUID occurs twice over data files, delete files and scheduled"
 abbrev pub files_differ : List ℕ → List ℕ → List ℕ → List ℕ → Counts → Bool

@@ -1,3 +1,5 @@
 pub mod Files
 pub mod Naming
 pub mod Comparable
+pub mod Records
+pub mod Tables

@@ -1,5 +1,5 @@
 -- Names and orders of records that share a live number: how two are compared, and what the comparison relies on.
-use Rattle.std.specs.Prelude.{ℕ, ◌+◌, ◌*◌, ◌≤◌, ◌<◌, ◌≡◌, Bool, true, false, not, ◌&&◌, ◌||◌, ltb, eqb, length}
+use Rattle.std.specs.Prelude.{ℕ, ◌+◌, ◌*◌, ◌≤◌, ◌<◌, ◌≡◌, Bool, true, false, not, ◌&&◌, ◌||◌, ltb, eqb, length, Option, None, Some}
 use mathlib.Core.List.{List, [], ◌∷◌, ◌++◌, Memᴰ as In}
 use Rattle.lists.specs.Runs.{field}
 use Rattle.layout.specs.Fields.{column_size, column_table_word, column_order_word, column_begin_word}
@@ -9,8 +9,7 @@ use Rattle.lookup.specs.Versions.{life_at, with_life}
 use Rattle.names.specs.NameWords.{name_words}
 use Rattle.sorting.specs.Colliding.{same_prefix, digest, hashed, pair_hash}
 use Rattle.sorting.specs.Keys.{key_at}
-use Rattle.soundness_unique.specs.declared.naming.Group.{Group}
-use Rattle.soundness_unique.specs.declared.naming.Group.TheVariants.{All, With}
+use Rattle.sorting.specs.declared.colliding.Round.TheVariants.{First}
 
 -- keys of names: the group, the words of the name, the begin
 abbrev pub name_key_size : ℕ
@@ -26,24 +25,24 @@ order_key_size = 3
 abbrev pub order_key_begin : ℕ
 order_key_begin = 2
 
--- the number that the records of a group share
-abbrev pub group_of : Group → ℕ → List ℕ → ℕ → ℕ
-group_of All size run i = 0
-group_of (With word) size run i = field size word run i
+-- records of a group share a number: that in the word of the group, or 0 where all are of one group
+abbrev pub group_of : Option ℕ → ℕ → List ℕ → ℕ → ℕ
+group_of None size run i = 0
+group_of (Some word) size run i = field size word run i
 
-abbrev pub is_inside : Group → ℕ → Bool
-is_inside All size = true
-is_inside (With word) size = ltb word size
+abbrev pub is_inside : Option ℕ → ℕ → Bool
+is_inside None size = true
+is_inside (Some word) size = ltb word size
 
 -- the words that two records may not share while both live: the group and the name. They are hashed where they stand; a key has the begin too
 
-abbrev pub name_words_at : ℕ → Group → List ℕ → List ℕ → ℕ → List ℕ
+abbrev pub name_words_at : ℕ → Option ℕ → List ℕ → List ℕ → ℕ → List ℕ
 name_words_at size group run names i = group_of group size run i ∷ name_words (name_at names i)
 
-abbrev pub name_hash : ℕ → Group → List ℕ → List ℕ → ℕ → ℕ
-name_hash size group run names i = hashed false (digest false 0 (name_words_at size group run names i))
+abbrev pub name_hash : ℕ → Option ℕ → List ℕ → List ℕ → ℕ → ℕ
+name_hash size group run names i = hashed First (digest First 0 (name_words_at size group run names i))
 
-abbrev pub name_key : ℕ → Group → ℕ → List ℕ → List ℕ → ℕ → List ℕ
+abbrev pub name_key : ℕ → Option ℕ → ℕ → List ℕ → List ℕ → ℕ → List ℕ
 name_key size group begin run names i = name_words_at size group run names i ++ (field size begin run i ∷ [])
 
 -- of columns, the table and the order
@@ -66,7 +65,7 @@ live_together size begin run i j = overlap (with_life (life_at size begin run i)
 abbrev pub keys_apart : ℕ → List ℕ → ℕ → ℕ → List ℕ → ℕ → ℕ → Bool
 keys_apart used keys size begin run i j = not (same_prefix used (used + 1) keys i j) || not (live_together size begin run i j)
 
-abbrev pub names_apart_at : ℕ → Group → ℕ → List ℕ → List ℕ → ℕ → ℕ → Bool
+abbrev pub names_apart_at : ℕ → Option ℕ → ℕ → List ℕ → List ℕ → ℕ → ℕ → Bool
 names_apart_at size group begin run names i j =
     not (eqb (group_of group size run i) (group_of group size run j)) || not (live_together size begin run i j) || not (same_name (name_at names i) (name_at names j))
 
@@ -86,7 +85,7 @@ abbrev pub keyed_at : ℕ → List ℕ → ℕ → ℕ → List ℕ → ℕ → 
 keyed_at used keys size begin run n i = ltb i n && eqb (field (used + 1) used keys i) (field size begin run i)
 
 -- n records of `size` words whose lives are not empty, with names
-pub record NamesLiving (size : ℕ) (group : Group) (begin : ℕ) (run names : List ℕ) (n : ℕ) : Type 0 where
+pub record NamesLiving (size : ℕ) (group : Option ℕ) (begin : ℕ) (run names : List ℕ) (n : ℕ) : Type 0 where
   pub living : Living size begin run n
   pub grouped : is_inside group size ≡ true
   pub names_lent : name_size * n ≤ length names
@@ -99,7 +98,7 @@ pub record Scratch (size n : ℕ) (keys w v : List ℕ) : Type 0 where
   pub spare : n ≤ length v
 
 -- a record with a group and a name
-pub record NameLent (size : ℕ) (group : Group) (run names : List ℕ) (i : ℕ) : Type 0 where
+pub record NameLent (size : ℕ) (group : Option ℕ) (run names : List ℕ) (i : ℕ) : Type 0 where
   pub lent : size * i + size ≤ length run
   pub grouped : is_inside group size ≡ true
   pub name_lent : name_size * i + name_size ≤ length names

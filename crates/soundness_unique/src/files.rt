@@ -6,14 +6,14 @@ ghost use Rattle.ducklake.specs.Soundness.{ids_of_files, ids_below_next, files_d
 ghost use Rattle.lookup.specs.Order.{SchemasById, TablesById, DataFilesById, DeleteFilesById};
 ghost use Rattle.soundness_unique.specs.Comparable.{Numbered, FilesLent, FilesScratch};
 
-use crate::distinct::files_differ;
+use crate::distinct::{FileTables, files_differ};
 use layout::number::{CatalogId, FileId};
 use layout::outcome::Counts;
 use layout::record::{
     DataFileRecord, DeleteFileRecord, ScheduledRecord, SchemaRecord, TableRecord,
 };
 use lookup::find::latest_snapshot;
-use runs::fields::{ascending_below, fields_below};
+use runs::fields::Fields;
 
 // Whether the ids of schemas and of tables, which ascend, are below that one.
 fn catalog_ids_below(schemas: &[u64], tables: &[u64], counts: Counts, next: CatalogId) -> bool
@@ -22,10 +22,20 @@ fn catalog_ids_below(schemas: &[u64], tables: &[u64], counts: Counts, next: Cata
         → result ≡ (all (λ v. ltb v.id next.0) (schemas_in schemas.now names counts.schemas)
         && all (λ v. ltb v.id next.0) (tables_in tables.now table_names counts.tables)) }
 {
-    let n = counts.schemas;
-    let m = counts.tables;
-    let a = ascending_below(schemas, SchemaRecord::SIZE, SchemaRecord::ID, n, next.0);
-    let b = ascending_below(tables, TableRecord::SIZE, TableRecord::ID, m, next.0);
+    let of_schemas = Fields {
+        words: schemas,
+        size: SchemaRecord::SIZE,
+        at: SchemaRecord::ID,
+        n: counts.schemas,
+    };
+    let of_tables = Fields {
+        words: tables,
+        size: TableRecord::SIZE,
+        at: TableRecord::ID,
+        n: counts.tables,
+    };
+    let a = of_schemas.ascending_below(next.0);
+    let b = of_tables.ascending_below(next.0);
     a & b
 }
 
@@ -44,30 +54,27 @@ fn file_ids_below(
         (delete_files_in delete_files.now positions counts.delete_files)
         (scheduled_in scheduled.now counts.scheduled)) }
 {
-    let n = counts.data_files;
-    let m = counts.delete_files;
-    let k = counts.scheduled;
-    let a = ascending_below(
-        data_files,
-        DataFileRecord::SIZE,
-        DataFileRecord::ID,
-        n,
-        next.0,
-    );
-    let b = ascending_below(
-        delete_files,
-        DeleteFileRecord::SIZE,
-        DeleteFileRecord::ID,
-        m,
-        next.0,
-    );
-    let c = fields_below(
-        scheduled,
-        ScheduledRecord::SIZE,
-        ScheduledRecord::FILE,
-        k,
-        next.0,
-    );
+    let of_data_files = Fields {
+        words: data_files,
+        size: DataFileRecord::SIZE,
+        at: DataFileRecord::ID,
+        n: counts.data_files,
+    };
+    let of_delete_files = Fields {
+        words: delete_files,
+        size: DeleteFileRecord::SIZE,
+        at: DeleteFileRecord::ID,
+        n: counts.delete_files,
+    };
+    let of_scheduled = Fields {
+        words: scheduled,
+        size: ScheduledRecord::SIZE,
+        at: ScheduledRecord::FILE,
+        n: counts.scheduled,
+    };
+    let a = of_data_files.ascending_below(next.0);
+    let b = of_delete_files.ascending_below(next.0);
+    let c = of_scheduled.below(next.0);
     a & (b & c)
 }
 
@@ -117,13 +124,11 @@ pub fn files_distinct(
         → result ≡ files_distinct (load w counts) }
 {
     let n = counts.data_files + counts.delete_files + counts.scheduled;
-    files_differ(
+    let files = FileTables {
         data_files,
         delete_files,
         scheduled,
         counts,
-        keys,
-        &mut w[0..n],
-        &mut v[0..n],
-    )
+    };
+    files_differ(files, keys, &mut w[..n], &mut v[..n])
 }

@@ -3,4 +3,5 @@
 
 mod distinct;
 pub mod files;
+mod left;
 pub mod naming;

@@ -1,25 +1,24 @@
-ghost use Rattle.std.specs.Prelude.{◌≡◌, true, map, ℕ, ◌+◌, ◌*◌, ◌≤◌, ◌<◌, length};
-ghost use Rattle.lists.specs.Lists.{range, all, pairwise, chained};
+ghost use Rattle.std.specs.Prelude.{◌≡◌, true, map, ℕ, ◌+◌, ◌*◌, ◌≤◌, ◌<◌, length, take};
+ghost use Rattle.lists.specs.Lists.{range, all, pairwise};
 ghost use Rattle.lists.specs.Runs.{overwrite};
 ghost use Rattle.layout.specs.Fields.{column_size, column_table_word, column_begin_word};
-ghost use Rattle.layout.specs.Names.{name_size};
 ghost use Rattle.layout.specs.Words.{Words, load};
 ghost use Rattle.ducklake.specs.Soundness.{names_apart};
-ghost use Rattle.sorting.specs.Colliding.{same_prefix};
+ghost use Rattle.sorting.specs.Colliding.{Kept};
 ghost use Rattle.sorting.specs.Keys.{Keyed};
-ghost use Rattle.soundness_unique.specs.declared.naming.Group.TheVariants.{With};
-ghost use Rattle.soundness_unique.specs.Naming.{name_key_size, order_key_size, group_of, is_inside, name_hash, name_key, order_key, KeysPut, keys_apart, names_apart_at, orders_apart_at, Living, keyed_at, NamesLiving, Scratch, NameLent};
+ghost use Rattle.soundness_unique.specs.Naming.{name_key_size, order_key_size, group_of, is_inside, order_hash, order_key, KeysPut, names_apart_at, orders_apart_at, Living, NamesLiving, Scratch};
+ghost use Rattle.soundness_unique.specs.Records.{HasRecord, HaveRecords, together, AllLive, has_key, apart_by, HasName, HaveNames, NamesLent, AllNamed, hash_of_name, key_of_name, names_apart_in};
 ghost use Rattle.soundness_unique.specs.Comparable.{Named, NamesScratch};
 
+use crate::left::left_places;
 use layout::outcome::Counts;
 use layout::record::{ColumnRecord, SchemaRecord, TableRecord};
 use lookup::life::{life_at, lives_overlap};
 use names::name_word;
-use runs::fields::{field_at, fields_ascend};
-use runs::pairs::pairs_ascend;
-use sorting::colliding::{absorb, hash, hash_pairs, keep_colliding, thin};
-use sorting::keys::put_words;
-use sorting::sort::{number, sort};
+use runs::fields::{Fields, field_at};
+use sorting::colliding::{Round, absorb, hash, hash_pairs};
+use sorting::distinct::places_apart;
+use sorting::keys::{Keys, put_words};
 
 // Names and orders are in no order. Records are sorted by what no two may share while both live, then by begin: if each has ended when the next that
 // shares it begins, no two clash.
@@ -34,256 +33,155 @@ const ORDER_KEY_SIZE: usize = 3;
 
 const ORDER_KEY_BEGIN: usize = 2;
 
-// Which records may not share a name: any two, or those with the same number in a word.
+// Records that live from the number in the word `begin` up to that in the next.
 #[derive(Clone, Copy)]
-pub enum Group {
-    All,
-    With(usize),
+struct Records<'a> {
+    table: &'a [u64],
+    size: usize,
+    begin: usize,
 }
 
-// Whether the keys at two places have the same first words, all but the begin.
-fn same_prefix(keys: &[u64], used: usize, i: usize, j: usize) -> bool
-    requires { ((used + 1) * i + (used + 1) ≤ length keys.now) × ((used + 1) * j + (used + 1) ≤ length keys.now) }
-    ensures { result ≡ same_prefix used (used + 1) keys.now i j }
-{
-    let mut k: usize = 0;
-    while k < used {
-        let x = field_at(keys, used + 1, k, i);
-        let y = field_at(keys, used + 1, k, j);
-        if x != y {
-            return false;
+// Those with names: two with one number in the word `group` may not share a name, or where there is no such word, any two.
+#[derive(Clone, Copy)]
+struct NamedRecords<'a> {
+    records: Records<'a>,
+    group: Option<usize>,
+    names: &'a [u8],
+}
+
+impl Records<'_> {
+    // Whether the records at two places share a live number.
+    fn live_together(self, i: usize, j: usize) -> bool
+        requires { HasRecord self i × HasRecord self j × (self.begin + 1 < self.size) }
+        ensures { result ≡ together self.entry i j }
+    {
+        let a = life_at(self.table, self.size, self.begin, i);
+        let b = life_at(self.table, self.size, self.begin, j);
+        lives_overlap(a, b)
+    }
+}
+
+impl NamedRecords<'_> {
+    // The number of the group of the record at place i, 0 where all are of one.
+    fn group_at(self, i: usize) -> u64
+        requires { HasRecord self.records i × (is_inside self.group self.records.size ≡ true) }
+        ensures { result ≡ group_of self.entry.group self.entry.records.size self.entry.records.table.now i }
+    {
+        match self.group {
+            None => 0,
+            Some(word) => field_at(self.records.table, self.records.size, word, i),
         }
-        k += 1;
     }
-    true
-}
 
-// Whether two records differ in their keys, the begins left aside, or share no live number.
-fn keys_apart(
-    keys: &[u64],
-    used: usize,
-    table: &[u64],
-    size: usize,
-    begin: usize,
-    i: usize,
-    j: usize,
-) -> bool
-    requires { ((used + 1) * i + (used + 1) ≤ length keys.now) × ((used + 1) * j + (used + 1) ≤ length keys.now)
-        × (size * i + size ≤ length table.now) × (size * j + size ≤ length table.now) × (begin + 1 < size) }
-    ensures { result ≡ keys_apart used keys.now size begin table.now i j }
-{
-    let same = same_prefix(keys, used, i, j);
-    if !same {
-        return true;
+    // The hash of its group and its name.
+    fn name_hash(self, i: usize) -> usize
+        requires { HasName self i }
+        ensures { result ≡ hash_of_name self.entry i }
+    {
+        let a = absorb(0, self.group_at(i), Round::First);
+        let b = absorb(a, name_word(self.names, i, 0), Round::First);
+        let c = absorb(b, name_word(self.names, i, 1), Round::First);
+        let d = absorb(c, name_word(self.names, i, 2), Round::First);
+        let e = absorb(d, name_word(self.names, i, 3), Round::First);
+        hash(e, Round::First)
     }
-    let a = life_at(table, size, begin, i);
-    let b = life_at(table, size, begin, j);
-    let together = lives_overlap(a, b);
-    !together
-}
 
-fn neighbours_apart(
-    keys: &[u64],
-    used: usize,
-    table: &[u64],
-    size: usize,
-    begin: usize,
-    w: &[usize],
-) -> bool
-    requires { Keyed (used + 1) keys.now w.now × Keyed size table.now w.now × (begin + 1 < size) }
-    ensures { result ≡ chained (keys_apart used keys.now size begin table.now) w.now }
-{
-    let n = w.len();
-    let mut i: usize = 0;
-    while i + 1 < n {
-        let ok = keys_apart(keys, used, table, size, begin, w[i], w[i + 1]);
-        if !ok {
-            return false;
+    // The hashes of as many records as there are places for them.
+    fn hash_names(self, hashes: &mut [usize])
+        requires { NamesLent self (length hashes.old) }
+        ensures { hashes.new ≡ map (hash_of_name self.entry) (range 0 (length hashes.old)) }
+    {
+        for p in 0..hashes.len() {
+            hashes[p] = self.name_hash(p);
         }
-        i += 1;
     }
-    true
+
+    // Of as many records as there are places those whose group and name another has, by the first hash, put into w from its front on;
+    // returns how many. The hashes are scratch afterwards.
+    fn left_names(self, w: &mut [usize], hashes: &mut [usize]) -> usize
+        requires { NamesLent self (length w.old) × (length hashes.old ≡ length w.old) }
+        ensures { (length w.new ≡ length w.old) × (result ≤ length w.old)
+            × ((n : ℕ) → length w.old ≡ n → Kept (hash_of_name self.entry) (range 0 n) (take result w.new)) }
+    {
+        self.hash_names(hashes);
+        left_places(hashes, w)
+    }
+
+    // The key of the record at place i: the group, the words of the name, the begin.
+    fn put_name_key(self, i: usize, keys: &mut [u64])
+        requires { HasName self i × (self.records.begin < self.records.size) × (name_key_size * i + name_key_size ≤ length keys.old) }
+        ensures { keys.new ≡ overwrite keys.old (name_key_size * i) (key_of_name self.entry i) }
+    {
+        let k = NAME_KEY_SIZE * i;
+        let r = self.records;
+        keys[k] = self.group_at(i);
+        keys[k + 1] = name_word(self.names, i, 0);
+        keys[k + 2] = name_word(self.names, i, 1);
+        keys[k + 3] = name_word(self.names, i, 2);
+        keys[k + 4] = name_word(self.names, i, 3);
+        keys[k + NAME_KEY_BEGIN] = field_at(r.table, r.size, r.begin, i);
+    }
+
+    // The keys of the records at those places.
+    fn put_name_keys(self, w: &[usize], keys: &mut [u64])
+        requires { HaveNames self w.now × (self.records.begin < self.records.size) × Keyed name_key_size keys.old w.now }
+        ensures { (length keys.new ≡ length keys.old)
+            × KeysPut (key_of_name self.entry) name_key_size w.now keys.new }
+    {
+        for &i in w {
+            self.put_name_key(i, keys);
+        }
+    }
 }
 
-// Whether no two of the records at those places share both the first words of their keys and a live number; v is scratch.
-fn sorted_apart(
+// Whether no two of the records at those places share both the first words of their keys, all but the begin, and a live number; v is scratch.
+fn records_apart(
     keys: &[u64],
     used: usize,
-    table: &[u64],
-    size: usize,
-    begin: usize,
+    records: Records,
     w: &mut [usize],
     v: &mut [usize],
 ) -> bool
-    requires { Keyed (used + 1) keys.now w.old × Keyed size table.now w.old × (used < name_key_size) × (begin + 1 < size)
-        × (length v.old ≡ length w.old) }
-    ensures { (n : ℕ) → Living size begin table.now n
-        → all (keyed_at used keys.now size begin table.now n) w.old ≡ true
-        → result ≡ pairwise (keys_apart used keys.now size begin table.now) w.old }
+    requires { Keyed (used + 1) keys.now w.old × HaveRecords records w.old × (used < name_key_size)
+        × (records.begin + 1 < records.size) × (length v.old ≡ length w.old) }
+    ensures { (n : ℕ) → AllLive records.entry n → all (has_key used keys.now records.entry n) w.old ≡ true
+        → result ≡ pairwise (apart_by used keys.now records.entry) w.old }
 {
-    sort(keys, used + 1, w, v);
-    neighbours_apart(keys, used, table, size, begin, w)
-}
-
-// The same: those whose first words no other has, by the second hash, need no sort.
-fn places_apart(
-    keys: &[u64],
-    used: usize,
-    table: &[u64],
-    size: usize,
-    begin: usize,
-    w: &mut [usize],
-    v: &mut [usize],
-) -> bool
-    requires { Keyed (used + 1) keys.now w.old × Keyed size table.now w.old × (used < name_key_size) × (begin + 1 < size)
-        × (length v.old ≡ length w.old) }
-    ensures { (n : ℕ) → Living size begin table.now n
-        → all (keyed_at used keys.now size begin table.now n) w.old ≡ true
-        → result ≡ pairwise (keys_apart used keys.now size begin table.now) w.old }
-{
-    let key_size = used + 1;
-    let r = thin(keys, key_size, used, true, w, v);
-    sorted_apart(keys, used, table, size, begin, &mut w[..r], &mut v[..r])
-}
-
-// The number of the group of the record at place i.
-fn group_at(table: &[u64], size: usize, group: Group, i: usize) -> u64
-    requires { (size * i + size ≤ length table.now) × (is_inside group size ≡ true) }
-    ensures { result ≡ group_of group size table.now i }
-{
-    match group {
-        Group::All => 0,
-        Group::With(word) => field_at(table, size, word, i),
-    }
-}
-
-// The hash of its group and its name.
-fn name_hash(table: &[u64], size: usize, group: Group, names: &[u8], i: usize) -> usize
-    requires { NameLent size group table.now names.now i }
-    ensures { result ≡ name_hash size group table.now names.now i }
-{
-    let a = absorb(0, group_at(table, size, group, i), false);
-    let b = absorb(a, name_word(names, i, 0), false);
-    let c = absorb(b, name_word(names, i, 1), false);
-    let d = absorb(c, name_word(names, i, 2), false);
-    let e = absorb(d, name_word(names, i, 3), false);
-    hash(e, false)
-}
-
-// The hashes of as many records as there are places for them.
-fn hash_names(table: &[u64], size: usize, group: Group, names: &[u8], hashes: &mut [usize])
-    requires { (size * length hashes.old ≤ length table.now) × (is_inside group size ≡ true) × (name_size * length hashes.old ≤ length names.now) }
-    ensures { hashes.new ≡ map (name_hash size group table.now names.now) (range 0 (length hashes.old)) }
-{
-    let n = hashes.len();
-    let mut p: usize = 0;
-    while p < n {
-        hashes[p] = name_hash(table, size, group, names, p);
-        p += 1;
-    }
-}
-
-// The key of the record at place i: the group, the words of the name, the begin.
-fn put_name_key(
-    table: &[u64],
-    size: usize,
-    group: Group,
-    begin: usize,
-    names: &[u8],
-    i: usize,
-    keys: &mut [u64],
-)
-    requires { NameLent size group table.now names.now i × (begin < size) × (name_key_size * i + name_key_size ≤ length keys.old) }
-    ensures { keys.new ≡ overwrite keys.old (name_key_size * i)
-        (name_key size group begin table.now names.now i) }
-{
-    let k = NAME_KEY_SIZE * i;
-    keys[k] = group_at(table, size, group, i);
-    keys[k + 1] = name_word(names, i, 0);
-    keys[k + 2] = name_word(names, i, 1);
-    keys[k + 3] = name_word(names, i, 2);
-    keys[k + 4] = name_word(names, i, 3);
-    keys[k + NAME_KEY_BEGIN] = field_at(table, size, begin, i);
-}
-
-// The keys of the records at those places.
-fn put_name_keys(
-    table: &[u64],
-    size: usize,
-    group: Group,
-    begin: usize,
-    names: &[u8],
-    w: &[usize],
-    keys: &mut [u64],
-)
-    requires { Keyed size table.now w.now × (is_inside group size ≡ true) × (begin < size)
-        × Keyed name_size names.now w.now × Keyed name_key_size keys.old w.now }
-    ensures { (length keys.new ≡ length keys.old)
-        × KeysPut (name_key size group begin table.now names.now) name_key_size w.now keys.new }
-{
-    let n = w.len();
-    let mut j: usize = 0;
-    while j < n {
-        put_name_key(table, size, group, begin, names, w[j], keys);
-        j += 1;
-    }
-}
-
-// Whether records of one group that share a live number have different names, of as many records as w is long: those whose group and name no other
-// has, by the first hash, need no key. keys, w and v are scratch.
-fn all_names_apart(
-    table: &[u64],
-    size: usize,
-    group: Group,
-    begin: usize,
-    names: &[u8],
-    keys: &mut [u64],
-    w: &mut [usize],
-    v: &mut [usize],
-) -> bool
-    requires { NamesLiving size group begin table.now names.now (length w.old)
-        × (name_key_size * length w.old ≤ length keys.old) × (length v.old ≡ length w.old) }
-    ensures { result ≡ pairwise (names_apart_at size group begin table.now names.now) (range 0 (length w.old)) }
-{
-    number(w);
-    hash_names(table, size, group, names, v);
-    let r = keep_colliding(v, w);
-    put_name_keys(table, size, group, begin, names, &w[..r], keys);
+    let keys = Keys {
+        words: keys,
+        size: used + 1,
+    };
     places_apart(
         keys,
-        NAME_KEY_BEGIN,
-        table,
-        size,
-        begin,
-        &mut w[..r],
-        &mut v[..r],
+        used,
+        w,
+        v,
+        |i, j| !keys.same(used, i, j) || !records.live_together(i, j),
     )
 }
 
-// The same of n records, in scratch that may be longer.
+// Whether n records of one group that share a live number have different names: those whose group and name no other has, by the first hash, need no
+// key. keys, w and v are scratch, which may be longer.
 fn names_apart_by(
-    table: &[u64],
-    size: usize,
-    group: Group,
-    begin: usize,
-    names: &[u8],
+    named: NamedRecords,
     n: usize,
     keys: &mut [u64],
     w: &mut [usize],
     v: &mut [usize],
 ) -> bool
-    requires { NamesLiving size group begin table.now names.now n × Scratch name_key_size n keys.old w.old v.old }
-    ensures { result ≡ pairwise (names_apart_at size group begin table.now names.now) (range 0 n) }
+    requires { AllNamed named n × Scratch name_key_size n keys.old w.old v.old }
+    ensures { result ≡ pairwise (names_apart_in named.entry) (range 0 n) }
 {
-    all_names_apart(
-        table,
-        size,
-        group,
-        begin,
-        names,
+    let w = &mut w[..n];
+    let v = &mut v[..n];
+    let r = named.left_names(w, v);
+    named.put_name_keys(&w[..r], keys);
+    records_apart(
         keys,
-        &mut w[0..n],
-        &mut v[0..n],
+        NAME_KEY_BEGIN,
+        named.records,
+        &mut w[..r],
+        &mut v[..r],
     )
 }
 
@@ -310,34 +208,22 @@ fn put_order_keys(columns: &[u64], w: &[usize], keys: &mut [u64])
     );
 }
 
-// Whether columns of one table that share a live number have different orders, of as many as w is long: those whose table and order no other has, by
-// the first hash, need no key. keys, w and v are scratch.
-fn all_orders_apart(columns: &[u64], keys: &mut [u64], w: &mut [usize], v: &mut [usize]) -> bool
-    requires { Living column_size column_begin_word columns.now (length w.old)
-        × (order_key_size * length w.old ≤ length keys.old) × (length v.old ≡ length w.old) }
-    ensures { result ≡ pairwise (orders_apart_at columns.now) (range 0 (length w.old)) }
+// Of as many columns as there are places those whose table and order another has, by the first hash, as `left_names` does.
+fn left_orders(columns: &[u64], w: &mut [usize], hashes: &mut [usize]) -> usize
+    requires { (column_size * length w.old ≤ length columns.now) × (length hashes.old ≡ length w.old) }
+    ensures { (length w.new ≡ length w.old) × (result ≤ length w.old)
+        × ((n : ℕ) → length w.old ≡ n → Kept (order_hash columns.now) (range 0 n) (take result w.new)) }
 {
     let size = ColumnRecord::SIZE;
     let first = ColumnRecord::TABLE;
     let second = ColumnRecord::ORDER;
-    let begin = ColumnRecord::BEGIN;
-    let n = w.len();
-    number(w);
-    hash_pairs(columns, size, first, second, n, v, 0);
-    let r = keep_colliding(v, w);
-    put_order_keys(columns, &w[..r], keys);
-    places_apart(
-        keys,
-        ORDER_KEY_BEGIN,
-        columns,
-        size,
-        begin,
-        &mut w[..r],
-        &mut v[..r],
-    )
+    hash_pairs(columns, size, first, second, w.len(), hashes, 0);
+    left_places(hashes, w)
 }
 
-// The same of n columns, in scratch that may be longer.
+// Whether n columns of one table that share a live number have different orders: those whose table and order no other has, by the first hash, need no
+// key. keys, w and v are scratch, which may be longer.
+// Stays: one function with `names_apart_by`, which took the hash and the keys as closures, is no plainer: their contracts are longer than these lines.
 fn orders_apart_by(
     columns: &[u64],
     n: usize,
@@ -348,7 +234,16 @@ fn orders_apart_by(
     requires { Living column_size column_begin_word columns.now n × Scratch order_key_size n keys.old w.old v.old }
     ensures { result ≡ pairwise (orders_apart_at columns.now) (range 0 n) }
 {
-    all_orders_apart(columns, keys, &mut w[0..n], &mut v[0..n])
+    let w = &mut w[..n];
+    let v = &mut v[..n];
+    let r = left_orders(columns, w, v);
+    put_order_keys(columns, &w[..r], keys);
+    let records = Records {
+        table: columns,
+        size: ColumnRecord::SIZE,
+        begin: ColumnRecord::BEGIN,
+    };
+    records_apart(keys, ORDER_KEY_BEGIN, records, &mut w[..r], &mut v[..r])
 }
 
 // The same: at once where columns ascend by table and order, which is how calls write them.
@@ -362,13 +257,13 @@ fn orders_apart(
     requires { Living column_size column_begin_word columns.now n × Scratch order_key_size n keys.old w.old v.old }
     ensures { result ≡ pairwise (orders_apart_at columns.now) (range 0 n) }
 {
-    let ascend = pairs_ascend(
-        columns,
-        ColumnRecord::SIZE,
-        ColumnRecord::TABLE,
-        ColumnRecord::ORDER,
+    let of_tables = Fields {
+        words: columns,
+        size: ColumnRecord::SIZE,
+        at: ColumnRecord::TABLE,
         n,
-    );
+    };
+    let ascend = of_tables.ascend_then(ColumnRecord::ORDER);
     if ascend {
         return true;
     }
@@ -384,25 +279,31 @@ fn column_names_apart(
     w: &mut [usize],
     v: &mut [usize],
 ) -> bool
-    requires { NamesLiving column_size (With column_table_word) column_begin_word columns.now names.now n
+    requires { NamesLiving column_size (Some column_table_word) column_begin_word columns.now names.now n
         × Scratch name_key_size n keys.old w.old v.old }
-    ensures { result ≡ pairwise (names_apart_at column_size (With column_table_word) column_begin_word columns.now names.now) (range 0 n) }
+    ensures { result ≡ pairwise (names_apart_at column_size (Some column_table_word) column_begin_word columns.now names.now) (range 0 n) }
 {
-    let alone = fields_ascend(columns, ColumnRecord::SIZE, ColumnRecord::TABLE, n);
+    let of_tables = Fields {
+        words: columns,
+        size: ColumnRecord::SIZE,
+        at: ColumnRecord::TABLE,
+        n,
+    };
+    let alone = of_tables.ascend();
     if alone {
         return true;
     }
-    names_apart_by(
-        columns,
-        ColumnRecord::SIZE,
-        Group::With(ColumnRecord::TABLE),
-        ColumnRecord::BEGIN,
+    let records = Records {
+        table: columns,
+        size: ColumnRecord::SIZE,
+        begin: ColumnRecord::BEGIN,
+    };
+    let named = NamedRecords {
+        records,
+        group: Some(ColumnRecord::TABLE),
         names,
-        n,
-        keys,
-        w,
-        v,
-    )
+    };
+    names_apart_by(named, n, keys, w, v)
 }
 
 // "schemas, tables of one schema and columns of one table with a common live snapshot number have different names, such columns also different
@@ -430,28 +331,26 @@ pub fn names_apart(
         → w.column_names ≡ column_names.now
         → result ≡ names_apart (load w counts) }
 {
-    let a = names_apart_by(
-        schemas,
-        SchemaRecord::SIZE,
-        Group::All,
-        SchemaRecord::BEGIN,
-        schema_names,
-        counts.schemas,
-        keys,
-        w,
-        v,
-    );
-    let b = names_apart_by(
-        tables,
-        TableRecord::SIZE,
-        Group::With(TableRecord::SCHEMA),
-        TableRecord::BEGIN,
-        table_names,
-        counts.tables,
-        keys,
-        w,
-        v,
-    );
+    let of_schemas = NamedRecords {
+        records: Records {
+            table: schemas,
+            size: SchemaRecord::SIZE,
+            begin: SchemaRecord::BEGIN,
+        },
+        group: None,
+        names: schema_names,
+    };
+    let of_tables = NamedRecords {
+        records: Records {
+            table: tables,
+            size: TableRecord::SIZE,
+            begin: TableRecord::BEGIN,
+        },
+        group: Some(TableRecord::SCHEMA),
+        names: table_names,
+    };
+    let a = names_apart_by(of_schemas, counts.schemas, keys, w, v);
+    let b = names_apart_by(of_tables, counts.tables, keys, w, v);
     let c = column_names_apart(columns, column_names, counts.columns, keys, w, v);
     let d = orders_apart(columns, counts.columns, keys, w, v);
     a & b & (c & d)

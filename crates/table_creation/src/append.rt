@@ -9,7 +9,7 @@ ghost use Rattle.table_creation.specs.Columns.{new_column_record};
 ghost use Rattle.table_creation.specs.Appended.{ColumnRoom, ColumnsRoom, ColumnsAppended};
 
 use crate::argument::{column_argument, column_count};
-use layout::number::{ABSENT, CatalogId, NAME_SIZE, SnapshotId};
+use layout::number::{CatalogId, NAME_SIZE, SnapshotId};
 use layout::record::ColumnRecord;
 use records::column::write_column;
 
@@ -35,7 +35,7 @@ fn append_column(
             id,
             table,
             begin,
-            end: SnapshotId(ABSENT),
+            end: SnapshotId::ABSENT,
             order: i as u64,
             type_code: column.type_code,
             nulls_allowed: column.nulls_allowed,
@@ -56,10 +56,8 @@ fn append_records(
     ensures { columns.new ≡ extend_table column_layout columns.old n
         (map (new_column_record begin.0 table.0 new_columns.now) (range 0 k)) }
 {
-    let mut i: usize = 0;
-    while i < k {
+    for i in 0..k {
         append_column(columns, n, table, begin, new_columns, i);
-        i += 1;
     }
 }
 
@@ -69,12 +67,7 @@ fn append_names(names: &mut [u8], n: usize, new_names: &[u8])
     ensures { names.new ≡ overwrite names.old (name_size * n) new_names.now }
 {
     let a = NAME_SIZE * n;
-    let m = new_names.len();
-    let mut k: usize = 0;
-    while k < m {
-        names[a + k] = new_names[k];
-        k += 1;
-    }
+    names[a..a + new_names.len()].copy_from_slice(new_names);
 }
 
 // The columns of a new table that begins at a snapshot, behind the first n, and their names in their places.

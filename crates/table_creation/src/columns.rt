@@ -36,13 +36,10 @@ fn each_column_fits(columns: &[u64], names: &[u8], n: usize) -> bool
     requires { ColumnsLent columns.now names.now n }
     ensures { (table : ℕ) → result ≡ all column_fits (map (column_argument table columns.now names.now) (range 0 n)) }
 {
-    let mut i: usize = 0;
-    while i < n {
-        let ok = column_fits(columns, names, n, i);
-        if !ok {
+    for i in 0..n {
+        if !column_fits(columns, names, n, i) {
             return false;
         }
-        i += 1;
     }
     true
 }
@@ -61,13 +58,10 @@ fn name_is_apart(names: &[u8], n: usize, i: usize) -> bool
     ensures { (table : ℕ) (words : List ℕ) → result ≡ all (λ c. not (clashes (name_at names.now i) c.name))
         (from (column_argument table words names.now) (i + 1) n) }
 {
-    let mut j = i + 1;
-    while j < n {
-        let clash = names_clash(names, i, j);
-        if clash {
+    for j in i + 1..n {
+        if names_clash(names, i, j) {
             return false;
         }
-        j += 1;
     }
     true
 }
@@ -77,13 +71,10 @@ fn names_are_apart(names: &[u8], n: usize) -> bool
     ensures { (table : ℕ) (words : List ℕ) → result ≡ pairwise (λ a b. not (clashes a.name b.name))
         (map (column_argument table words names.now) (range 0 n)) }
 {
-    let mut i: usize = 0;
-    while i < n {
-        let ok = name_is_apart(names, n, i);
-        if !ok {
+    for i in 0..n {
+        if !name_is_apart(names, n, i) {
             return false;
         }
-        i += 1;
     }
     true
 }

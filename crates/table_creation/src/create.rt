@@ -7,7 +7,7 @@ use crate::refuse::refuse_create_table;
 use crate::room::table_added;
 use crate::write::write_create_table;
 use layout::number::CatalogId;
-use layout::outcome::{ACCEPTED, Counts, Outcome, Terms};
+use layout::outcome::{Counts, Outcome, Terms};
 use refusals::checked::Checked;
 use refusals::room::counts_after;
 
@@ -35,7 +35,7 @@ pub fn create_table(
         (create_table_leaves l.words snapshots.new tables.new table_names.new columns.new
         column_names.new) area }
 {
-    let number = refuse_create_table(
+    if let Err(refusal) = refuse_create_table(
         checked,
         snapshots,
         schemas,
@@ -47,14 +47,8 @@ pub fn create_table(
         name,
         new_columns,
         new_column_names,
-    );
-    if number != ACCEPTED {
-        return Outcome {
-            number,
-            place: 0,
-            length: 0,
-            counts,
-        };
+    ) {
+        return Outcome::refused(refusal, counts);
     }
     write_create_table(
         snapshots,
@@ -71,10 +65,5 @@ pub fn create_table(
     );
     let added = table_added(new_columns);
     let after = counts_after(counts, added);
-    Outcome {
-        number: ACCEPTED,
-        place: 0,
-        length: 0,
-        counts: after,
-    }
+    Outcome::accepted(0, after)
 }

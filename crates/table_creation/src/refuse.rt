@@ -1,4 +1,5 @@
 ghost use Rattle.std.specs.Prelude.{◌≡◌, true, ℕ};
+ghost use Rattle.layout.specs.Refusals.{number_of};
 ghost use Rattle.layout.specs.Words.{Words};
 ghost use Rattle.ducklake.specs.Commits.{create_table};
 ghost use Rattle.ducklake.specs.Calls.{commit_at, refusal};
@@ -11,19 +12,17 @@ use commits::name::table_name_is_free;
 use commits::number::{next_snapshot, snapshot_fits};
 use commits::time::is_in_time;
 use layout::number::CatalogId;
-use layout::outcome::{
-    BAD_COLUMNS, BAD_NAME, Counts, NAME_TAKEN, NO_ROOM, NOT_LIVE, NOT_SOUND, NUMBER_TOO_LARGE,
-    TIME_FALLS, Terms,
-};
+use layout::outcome::{Counts, Terms};
 use layout::record::CREATED_TABLE;
+use layout::refusal::Refusal;
 use lookup::find::latest_snapshot;
 use lookup::live::schema_is_live;
 use names::is_name_argument;
 use refusals::checked::Checked;
-use refusals::first::first_refusal;
+use refusals::first::first_refused;
 use refusals::room::has_room;
 
-// The number of 'create table' on tables that were checked: of its tests, in the definition's order, the first that isn't passed.
+// The refusal of 'create table' on tables that were checked: of its tests, in the definition's order, the first that isn't passed.
 pub fn refuse_create_table(
     checked: Checked,
     snapshots: &[u64],
@@ -36,14 +35,14 @@ pub fn refuse_create_table(
     name: &[u8],
     new_columns: &[u64],
     new_column_names: &[u8],
-) -> u64
+) -> Result<(), Refusal>
     requires { checked.sound ≡ true → TableChecked snapshots.now schemas.now tables.now table_names.now counts }
     ensures { (w : Words) → w.snapshots ≡ snapshots.now → w.schemas ≡ schemas.now → w.tables ≡ tables.now
-        → w.table_names ≡ table_names.now → checked ≡ checked_of w counts → (m : ℕ) → result ≡ refusal w counts m
+        → w.table_names ≡ table_names.now → checked ≡ checked_of w counts → (m : ℕ) → number_of result ≡ refusal w counts m
         (commit_at terms (create_table schema.0 name.now new_columns.now new_column_names.now)) }
 {
     if !checked.sound {
-        return NOT_SOUND;
+        return Err(Refusal::NotSound);
     }
     let latest = latest_snapshot(snapshots, counts.snapshots);
     let live = schema_is_live(schemas, counts.schemas, schema, latest.id);
@@ -62,15 +61,13 @@ pub fn refuse_create_table(
     let fits = snapshot_fits(next);
     let added = table_added(new_columns);
     let room = has_room(checked.room, counts, added);
-    let numbers = [
-        NOT_LIVE,
-        TIME_FALLS,
-        BAD_NAME,
-        NAME_TAKEN,
-        BAD_COLUMNS,
-        NUMBER_TOO_LARGE,
-        NO_ROOM,
-    ];
-    let passed = [live, in_time, named, free, formed, fits, room];
-    first_refusal(&numbers, &passed)
+    first_refused(&[
+        (live, Refusal::NotLive),
+        (in_time, Refusal::TimeFalls),
+        (named, Refusal::BadName),
+        (free, Refusal::NameTaken),
+        (formed, Refusal::BadColumns),
+        (fits, Refusal::NumberTooLarge),
+        (room, Refusal::NoRoom),
+    ])
 }

@@ -1,34 +1,13 @@
 //! Ids: compared, hashed and ordered as their numbers; shown as the number, and for debugging with the name of their type.
 
 use crate::number::{CatalogId, FileId, RowId, SnapshotId};
-use std::cmp::Ordering;
 use std::fmt;
 use std::hash::{Hash, Hasher};
 
-/// The layout's ids are plain numbers; their source has `Clone` and `Copy`, and no other trait.
+/// The layout's ids are plain numbers, which their source copies and compares; it has no other trait.
 macro_rules! ids {
     ($($name:ident)*) => {
-        $(impl PartialEq for $name {
-            fn eq(&self, other: &$name) -> bool {
-                self.0 == other.0
-            }
-        }
-
-        impl Eq for $name {}
-
-        impl PartialOrd for $name {
-            fn partial_cmp(&self, other: &$name) -> Option<Ordering> {
-                Some(self.cmp(other))
-            }
-        }
-
-        impl Ord for $name {
-            fn cmp(&self, other: &$name) -> Ordering {
-                self.0.cmp(&other.0)
-            }
-        }
-
-        impl Hash for $name {
+        $(impl Hash for $name {
             fn hash<H: Hasher>(&self, state: &mut H) {
                 self.0.hash(state);
             }

@@ -76,14 +76,6 @@ impl fmt::Debug for Uuid {
     }
 }
 
-impl PartialEq for Uuid {
-    fn eq(&self, other: &Uuid) -> bool {
-        self.as_u128() == other.as_u128()
-    }
-}
-
-impl Eq for Uuid {}
-
 impl PartialOrd for Uuid {
     fn partial_cmp(&self, other: &Uuid) -> Option<Ordering> {
         Some(self.cmp(other))

@@ -1,6 +1,8 @@
 -- Every case of the lists is true: their calls, played on lent runs, give and leave what the lines say, by computation.
 use mathlib.Core.Path.{◌≡◌, refl}
-use mathlib.Core.List.{[], ◌∷◌}
+use mathlib.Core.List.{[], ◌∷◌, map}
+use Rattle.layout.specs.declared.refusal.Refusal.TheVariants.{NotSound, NoRoom, ShortAnswerArea, NumberTooLarge, NotRetained, NotLive, NoSnapshotByThen, TimeFalls, BadName, NameTaken, SchemaNotEmpty, BadColumns, BadRecordCount, UuidTaken, BadStatistics, BadPositions, AlreadyDeleted, BadExpiryList, ExpiresLatest}
+use Rattle.layout.specs.Refusals.{refusal_number}
 use Rattle.ducklake.specs.Refusals.{accepted, not_sound, no_room, short_answer_area, number_too_large, not_retained, not_live, no_snapshot_by_then, time_falls, bad_name, name_taken, schema_not_empty, bad_columns, bad_record_count, uuid_taken, bad_statistics, bad_positions, already_deleted, bad_expiry_list, expires_latest}
 use Rattle.ducklake.specs.Kinds.{created_schema, created_table, inserted_into_table, deleted_from_table, dropped_schema, dropped_table}
 use Rattle.ducklake.proofs.cases.Sessions.{passes}
@@ -21,6 +23,13 @@ refusal_numbers : (accepted ∷ not_sound ∷ no_room ∷ short_answer_area ∷ 
     ∷ name_taken ∷ schema_not_empty ∷ bad_columns ∷ bad_record_count ∷ uuid_taken ∷ bad_statistics ∷ bad_positions ∷ already_deleted ∷ bad_expiry_list ∷ expires_latest ∷ [])
     ≡ (0 ∷ 1 ∷ 2 ∷ 3 ∷ 4 ∷ 5 ∷ 6 ∷ 7 ∷ 8 ∷ 9 ∷ 10 ∷ 11 ∷ 12 ∷ 13 ∷ 14 ∷ 15 ∷ 16 ∷ 17 ∷ 18 ∷ 19 ∷ [])
 refusal_numbers = refl
+
+-- code's refusals have the same numbers, one by one
+code_numbers : map refusal_number (NotSound ∷ NoRoom ∷ ShortAnswerArea ∷ NumberTooLarge ∷ NotRetained ∷ NotLive ∷ NoSnapshotByThen ∷ TimeFalls ∷ BadName
+    ∷ NameTaken ∷ SchemaNotEmpty ∷ BadColumns ∷ BadRecordCount ∷ UuidTaken ∷ BadStatistics ∷ BadPositions ∷ AlreadyDeleted ∷ BadExpiryList ∷ ExpiresLatest ∷ [])
+    ≡ (not_sound ∷ no_room ∷ short_answer_area ∷ number_too_large ∷ not_retained ∷ not_live ∷ no_snapshot_by_then ∷ time_falls ∷ bad_name
+    ∷ name_taken ∷ schema_not_empty ∷ bad_columns ∷ bad_record_count ∷ uuid_taken ∷ bad_statistics ∷ bad_positions ∷ already_deleted ∷ bad_expiry_list ∷ expires_latest ∷ [])
+code_numbers = refl
 
 kind_numbers : (created_schema ∷ created_table ∷ inserted_into_table ∷ deleted_from_table ∷ dropped_schema ∷ dropped_table ∷ [])
     ≡ (1 ∷ 2 ∷ 3 ∷ 4 ∷ 6 ∷ 7 ∷ [])

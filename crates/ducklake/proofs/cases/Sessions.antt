@@ -6,7 +6,7 @@ use lib.Dec.{eqb}
 use lib.ListN.{length, take}
 use Rattle.layout.specs.declared.outcome.Counts.{Counts}
 use Rattle.lists.specs.Lists.{range, all, any, pairwise, chained, agree, filter, find, place, last, count, sum, highest, insert_by, sort_by}
-use Rattle.lists.specs.Runs.{overwrite, replace}
+use Rattle.lists.specs.Runs.{overwrite, replace_by}
 use Rattle.layout.specs.Records.{snapshot_words, schema_words, table_words, column_words, data_file_words, delete_file_words, statistics_words, scheduled_words}
 use Rattle.layout.specs.Names.{named_then_zero, is_name, is_name_argument, padded, same_name}
 use Rattle.layout.specs.Types.{types, is_type, in_type}
@@ -49,7 +49,7 @@ module _ (time : ℕ) (lent : Words) (given : Counts) (area : List ℕ) where
 
   -- whether a case is true
   unfoldable pub passes : Case → Bool
-  unfolding flat_map range all any pairwise chained agree filter find place last count sum highest insert_by sort_by overwrite replace snapshot_words schema_words table_words column_words data_file_words delete_file_words statistics_words scheduled_words named_then_zero is_name is_name_argument padded same_name types is_type in_type positions_before load store counts_of capacity within fits is_kind raises_schema_version live live_at_some retained schemas_at tables_at columns_at data_files_at delete_files_at deleted_at is_live column_live table_of_id data_file_of_id is_record_count snapshot_in_range schema_in_range table_in_range column_in_range data_file_in_range delete_file_in_range statistics_in_range scheduled_in_range fields_in_range follows snapshots_rise life_sound lives_sound by_table_and_id by_file_and_column ids_ascend ids_of_files uuids_of_files same_uuid ids_below_next files_distinct contains same_life table_nests column_nests data_file_nests delete_file_nests lives_nest overlap schemas_apart tables_apart columns_apart names_apart succeeded_by delete_files_apart positions_sound deletes_sound rows_before rows_in_table row_ranges_sound bound_fits statistics_fit file_statistics statistics_wanted file_statistics_sound statistics_on_file statistics_sound column_count_sound column_counts_sound first_unsound sound clashes new_columns columns_whole columns_fit new_statistics statistics_argument_fits positions_fit expiry_list_fits fresh_catalog close grow next_snapshot commit numbers_fit change_of tables_named listed admits kept file_rows query_answer snapshots_by_time place_of_file lookup lookup_answer lookup_refusal perform_lookup expire handed_out cleanup uuid_free offends effect answer has_room refusal place_of perform perform_fresh reading_answer reading_refusal perform_reading
+  unfolding flat_map range all any pairwise chained agree filter find place last count sum highest insert_by sort_by overwrite replace_by snapshot_words schema_words table_words column_words data_file_words delete_file_words statistics_words scheduled_words named_then_zero is_name is_name_argument padded same_name types is_type in_type positions_before load store counts_of capacity within fits is_kind raises_schema_version live live_at_some retained schemas_at tables_at columns_at data_files_at delete_files_at deleted_at is_live column_live table_of_id data_file_of_id is_record_count snapshot_in_range schema_in_range table_in_range column_in_range data_file_in_range delete_file_in_range statistics_in_range scheduled_in_range fields_in_range follows snapshots_rise life_sound lives_sound by_table_and_id by_file_and_column ids_ascend ids_of_files uuids_of_files same_uuid ids_below_next files_distinct contains same_life table_nests column_nests data_file_nests delete_file_nests lives_nest overlap schemas_apart tables_apart columns_apart names_apart succeeded_by delete_files_apart positions_sound deletes_sound rows_before rows_in_table row_ranges_sound bound_fits statistics_fit file_statistics statistics_wanted file_statistics_sound statistics_on_file statistics_sound column_count_sound column_counts_sound first_unsound sound clashes new_columns columns_whole columns_fit new_statistics statistics_argument_fits positions_fit expiry_list_fits fresh_catalog close grow next_snapshot commit numbers_fit change_of tables_named listed admits kept file_rows query_answer snapshots_by_time place_of_file lookup lookup_answer lookup_refusal perform_lookup expire handed_out cleanup uuid_free offends effect answer has_room refusal place_of perform perform_fresh reading_answer reading_refusal perform_reading
   passes k =
       let r : Result = asked (played (perform_fresh time lent given area) k.session) k.probe in
       eqb r.number k.number && agree eqb (take r.length r.area) k.words

@@ -7,9 +7,6 @@ use Rattle.layout.specs.Names.{same_name}
 use Rattle.layout.proofs.Names.{place_step, place_end, padded_step, padded_end}
 use Rattle.names.proofs.holds_name.Goals as goal
 
-pub loop-k-init : goal.loop-k-init
-loop-k-init c = refl
-
 pub returns-then-names-a : goal.returns-then-names-a
 unfolding same_name
 returns-then-names-a c =

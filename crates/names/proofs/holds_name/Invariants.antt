@@ -1,5 +1,4 @@
 -- `holds_name` meets its contract: the place and the padded name are compared byte by byte.
-use Prim.Native.Nat.{◌-◌}
 use mathlib.Core.Path.{◌≡◌}
 use lib.Dec.{eqb}
 use lib.ListN.{drop}
@@ -10,6 +9,3 @@ use Rattle.names.proofs.holds_name.Given as goal
 -- equal so far: the bytes from k on decide
 abbrev pub invariant-loop-k : goal.invariant-loop-k
 invariant-loop-k l = agree eqb (name_at l.names l.i) (padded l.name) ≡ agree eqb (drop l.k (name_at l.names l.i)) (drop l.k (padded l.name))
-
-abbrev pub decreases-loop-k : goal.decreases-loop-k
-decreases-loop-k l = 32 - l.k

@@ -1,5 +1,4 @@
 -- `is_name` meets its contract: each byte is judged by itself and by the one before it.
-use Prim.Native.Nat.{◌-◌}
 use mathlib.Core.Path.{◌≡◌}
 use mathlib.Core.Bool.{◌&&◌}
 use lib.ListN.{drop}
@@ -10,6 +9,3 @@ use Rattle.names.proofs.is_name.Given as goal
 -- the bytes from k on decide, with those so far
 abbrev pub invariant-loop-k : goal.invariant-loop-k
 invariant-loop-k l = is_name (name_at l.names l.i) ≡ (l.ok && rest_named l.before (drop l.k (name_at l.names l.i)))
-
-abbrev pub decreases-loop-k : goal.decreases-loop-k
-decreases-loop-k l = 32 - l.k

@@ -10,9 +10,6 @@ use Rattle.layout.specs.Names.{name_size}
 use Rattle.layout.proofs.Names.{padded_step, padded_end}
 use Rattle.names.proofs.write_name.Goals as goal
 
-pub loop-k-init : goal.loop-k-init
-loop-k-init c = (refl, rw add-zero refl)
-
 pub loop-k-preserved : goal.loop-k-preserved
 loop-k-preserved c =
     let l = c.loop-k in

@@ -1,6 +1,6 @@
 -- `play` meets its contract: a reading, or an operation for each kind, with the arguments that its spans name.
 use native.Mathlib.Omega.{arith}
-use mathlib.Core.Path.{refl, sym, ap, ◌∙◌}
+use mathlib.Core.Path.{sym, ap, ◌∙◌}
 use Rattle.call_lists.proofs.Parts.{words_fit, name_fits, names_fit}
 use Rattle.call_lists.proofs.KindLaws.{promise_of, create_schema_is, create_table_is, drop_schema_is, drop_table_is, insert_is, delete_is, expire_is, fresh-is, cleanup_is, reading_is}
 use Rattle.schema_creation.proofs.Lent.{create_schema_lent}
@@ -16,61 +16,25 @@ pub read-requires : goal.read-requires
 read-requires c =
     record { checked_value = c.requires.checked_value; length_in_bounds = name_fits _ _ c.args.call c.requires.call_value }
 
-pub shape_of-snapshots-then-is_reading : goal.shape_of-snapshots-then-is_reading
-shape_of-snapshots-then-is_reading c = refl
-
-pub shape_of-schemas-then-is_reading : goal.shape_of-schemas-then-is_reading
-shape_of-schemas-then-is_reading c = refl
-
-pub shape_of-schema_names-then-is_reading : goal.shape_of-schema_names-then-is_reading
-shape_of-schema_names-then-is_reading c = refl
-
-pub shape_of-tables-then-is_reading : goal.shape_of-tables-then-is_reading
-shape_of-tables-then-is_reading c = refl
-
-pub shape_of-table_names-then-is_reading : goal.shape_of-table_names-then-is_reading
-shape_of-table_names-then-is_reading c = refl
-
-pub shape_of-columns-then-is_reading : goal.shape_of-columns-then-is_reading
-shape_of-columns-then-is_reading c = refl
-
-pub shape_of-column_names-then-is_reading : goal.shape_of-column_names-then-is_reading
-shape_of-column_names-then-is_reading c = refl
-
-pub shape_of-data_files-then-is_reading : goal.shape_of-data_files-then-is_reading
-shape_of-data_files-then-is_reading c = refl
-
-pub shape_of-delete_files-then-is_reading : goal.shape_of-delete_files-then-is_reading
-shape_of-delete_files-then-is_reading c = refl
-
-pub shape_of-positions-then-is_reading : goal.shape_of-positions-then-is_reading
-shape_of-positions-then-is_reading c = refl
-
-pub shape_of-statistics-then-is_reading : goal.shape_of-statistics-then-is_reading
-shape_of-statistics-then-is_reading c = refl
-
-pub shape_of-scheduled-then-is_reading : goal.shape_of-scheduled-then-is_reading
-shape_of-scheduled-then-is_reading c = refl
-
 pub returns-then-is_reading : goal.returns-then-is_reading
 returns-then-is_reading c =
     promise_of _ _ _ (reading_is c.args.lists.now c.args.names.now c.args.call (sym c.is_reading.ensures ∙ c.if-is_reading.true)) c.read.ensures
 
-pub bytes_of-name-requires : goal.bytes_of-name-requires
-bytes_of-name-requires c = name_fits _ _ c.args.call c.requires.call_value
+pub part_of-name-requires : goal.part_of-name-requires
+part_of-name-requires c = name_fits _ _ c.args.call c.requires.call_value
 
 pub create_schema-requires : goal.create_schema-requires
 create_schema-requires c =
     create_schema_lent _ _ c.requires.checked_value
 
-pub bytes_of-name-requires-in-2 : goal.bytes_of-name-requires-in-2
-bytes_of-name-requires-in-2 c = name_fits _ _ c.args.call c.requires.call_value
+pub part_of-name-requires-in-2 : goal.part_of-name-requires-in-2
+part_of-name-requires-in-2 c = name_fits _ _ c.args.call c.requires.call_value
 
-pub words_of-new_columns-requires : goal.words_of-new_columns-requires
-words_of-new_columns-requires c = words_fit _ _ c.args.call c.requires.call_value
+pub part_of-new_columns-requires : goal.part_of-new_columns-requires
+part_of-new_columns-requires c = words_fit _ _ c.args.call c.requires.call_value
 
-pub bytes_of-new_column_names-requires : goal.bytes_of-new_column_names-requires
-bytes_of-new_column_names-requires c = names_fit _ _ c.args.call c.requires.call_value
+pub part_of-new_column_names-requires : goal.part_of-new_column_names-requires
+part_of-new_column_names-requires c = names_fit _ _ c.args.call c.requires.call_value
 
 pub create_table-requires : goal.create_table-requires
 create_table-requires c =
@@ -84,22 +48,22 @@ pub drop_table-requires : goal.drop_table-requires
 drop_table-requires c =
     drop_table_lent _ _ c.requires.checked_value
 
-pub words_of-new_statistics-requires : goal.words_of-new_statistics-requires
-words_of-new_statistics-requires c = words_fit _ _ c.args.call c.requires.call_value
+pub part_of-new_statistics-requires : goal.part_of-new_statistics-requires
+part_of-new_statistics-requires c = words_fit _ _ c.args.call c.requires.call_value
 
 pub insert_rows-requires : goal.insert_rows-requires
 insert_rows-requires c =
     insert_lent _ _ c.requires.checked_value
 
-pub words_of-new_positions-requires : goal.words_of-new_positions-requires
-words_of-new_positions-requires c = words_fit _ _ c.args.call c.requires.call_value
+pub part_of-new_positions-requires : goal.part_of-new_positions-requires
+part_of-new_positions-requires c = words_fit _ _ c.args.call c.requires.call_value
 
 pub delete_rows-requires : goal.delete_rows-requires
 delete_rows-requires c =
     delete_lent _ _ c.requires.checked_value
 
-pub words_of-ids-requires : goal.words_of-ids-requires
-words_of-ids-requires c = words_fit _ _ c.args.call c.requires.call_value
+pub part_of-ids-requires : goal.part_of-ids-requires
+part_of-ids-requires c = words_fit _ _ c.args.call c.requires.call_value
 
 pub expire_snapshots-requires : goal.expire_snapshots-requires
 expire_snapshots-requires c =
@@ -113,175 +77,37 @@ pub clean_up-requires : goal.clean_up-requires
 clean_up-requires c =
     cleanup_lent _ _ c.requires.checked_value
 
-pub shape_of-snapshots-in-1 : goal.shape_of-snapshots-in-1
-shape_of-snapshots-in-1 c = c.create_schema.auto.snapshots
-
-pub shape_of-schemas-in-1 : goal.shape_of-schemas-in-1
-shape_of-schemas-in-1 c = c.create_schema.auto.schemas
-
-pub shape_of-schema_names-in-1 : goal.shape_of-schema_names-in-1
-shape_of-schema_names-in-1 c = c.create_schema.auto.schema_names
-
 pub returns-in-1 : goal.returns-in-1
 returns-in-1 c =
-    promise_of _ _ _ (create_schema_is _ _ c.args.call c.in-1.is c.bytes_of-name.ensures) (c.create_schema.ensures (create_schema_lent _ _ c.requires.checked_value) _)
-
-pub shape_of-snapshots-in-2 : goal.shape_of-snapshots-in-2
-shape_of-snapshots-in-2 c = c.create_table.auto.snapshots
-
-pub shape_of-schemas-in-2 : goal.shape_of-schemas-in-2
-shape_of-schemas-in-2 c = refl
-
-pub shape_of-tables-in-2 : goal.shape_of-tables-in-2
-shape_of-tables-in-2 c = c.create_table.auto.tables
-
-pub shape_of-table_names-in-2 : goal.shape_of-table_names-in-2
-shape_of-table_names-in-2 c = c.create_table.auto.table_names
-
-pub shape_of-columns-in-2 : goal.shape_of-columns-in-2
-shape_of-columns-in-2 c = c.create_table.auto.columns
-
-pub shape_of-column_names-in-2 : goal.shape_of-column_names-in-2
-shape_of-column_names-in-2 c = c.create_table.auto.column_names
+    promise_of _ _ _ (create_schema_is _ _ c.args.call c.in-1.is c.part_of-name.ensures) (c.create_schema.ensures (create_schema_lent _ _ c.requires.checked_value) _)
 
 pub returns-in-2 : goal.returns-in-2
 returns-in-2 c =
-    promise_of _ _ _ (create_table_is _ _ c.args.call c.in-2.is c.bytes_of-name-in-2.ensures c.words_of-new_columns.ensures c.bytes_of-new_column_names.ensures) (c.create_table.ensures (create_table_lent _ _ c.requires.checked_value) _)
-
-pub shape_of-snapshots-in-6 : goal.shape_of-snapshots-in-6
-shape_of-snapshots-in-6 c = c.drop_schema.auto.snapshots
-
-pub shape_of-schemas-in-6 : goal.shape_of-schemas-in-6
-shape_of-schemas-in-6 c = c.drop_schema.auto.schemas
-
-pub shape_of-tables-in-6 : goal.shape_of-tables-in-6
-shape_of-tables-in-6 c = refl
+    promise_of _ _ _ (create_table_is _ _ c.args.call c.in-2.is c.part_of-name-in-2.ensures c.part_of-new_columns.ensures c.part_of-new_column_names.ensures) (c.create_table.ensures (create_table_lent _ _ c.requires.checked_value) _)
 
 pub returns-in-6 : goal.returns-in-6
 returns-in-6 c =
     promise_of _ _ _ (drop_schema_is _ _ c.args.call c.in-6.is) (c.drop_schema.ensures (drop_schema_lent _ _ c.requires.checked_value) _)
 
-pub shape_of-snapshots-in-7 : goal.shape_of-snapshots-in-7
-shape_of-snapshots-in-7 c = c.drop_table.auto.snapshots
-
-pub shape_of-tables-in-7 : goal.shape_of-tables-in-7
-shape_of-tables-in-7 c = c.drop_table.auto.tables
-
-pub shape_of-columns-in-7 : goal.shape_of-columns-in-7
-shape_of-columns-in-7 c = c.drop_table.auto.columns
-
-pub shape_of-data_files-in-7 : goal.shape_of-data_files-in-7
-shape_of-data_files-in-7 c = c.drop_table.auto.data_files
-
-pub shape_of-delete_files-in-7 : goal.shape_of-delete_files-in-7
-shape_of-delete_files-in-7 c = c.drop_table.auto.delete_files
-
 pub returns-in-7 : goal.returns-in-7
 returns-in-7 c =
     promise_of _ _ _ (drop_table_is _ _ c.args.call c.in-7.is) (c.drop_table.ensures (drop_table_lent _ _ c.requires.checked_value) _)
 
-pub shape_of-snapshots-in-3 : goal.shape_of-snapshots-in-3
-shape_of-snapshots-in-3 c = c.insert_rows.auto.snapshots
-
-pub shape_of-tables-in-3 : goal.shape_of-tables-in-3
-shape_of-tables-in-3 c = c.insert_rows.auto.tables
-
-pub shape_of-columns-in-3 : goal.shape_of-columns-in-3
-shape_of-columns-in-3 c = refl
-
-pub shape_of-data_files-in-3 : goal.shape_of-data_files-in-3
-shape_of-data_files-in-3 c = c.insert_rows.auto.data_files
-
-pub shape_of-delete_files-in-3 : goal.shape_of-delete_files-in-3
-shape_of-delete_files-in-3 c = refl
-
-pub shape_of-statistics-in-3 : goal.shape_of-statistics-in-3
-shape_of-statistics-in-3 c = c.insert_rows.auto.statistics
-
-pub shape_of-scheduled-in-3 : goal.shape_of-scheduled-in-3
-shape_of-scheduled-in-3 c = refl
-
 pub returns-in-3 : goal.returns-in-3
 returns-in-3 c =
-    promise_of _ _ _ (insert_is _ c.args.names.now c.args.call c.in-3.is c.words_of-new_statistics.ensures) (c.insert_rows.ensures (insert_lent _ _ c.requires.checked_value) _)
-
-pub shape_of-snapshots-in-4 : goal.shape_of-snapshots-in-4
-shape_of-snapshots-in-4 c = c.delete_rows.auto.snapshots
-
-pub shape_of-data_files-in-4 : goal.shape_of-data_files-in-4
-shape_of-data_files-in-4 c = refl
-
-pub shape_of-delete_files-in-4 : goal.shape_of-delete_files-in-4
-shape_of-delete_files-in-4 c = c.delete_rows.auto.delete_files
-
-pub shape_of-positions-in-4 : goal.shape_of-positions-in-4
-shape_of-positions-in-4 c = c.delete_rows.auto.positions
-
-pub shape_of-scheduled-in-4 : goal.shape_of-scheduled-in-4
-shape_of-scheduled-in-4 c = refl
+    promise_of _ _ _ (insert_is _ c.args.names.now c.args.call c.in-3.is c.part_of-new_statistics.ensures) (c.insert_rows.ensures (insert_lent _ _ c.requires.checked_value) _)
 
 pub returns-in-4 : goal.returns-in-4
 returns-in-4 c =
-    promise_of _ _ _ (delete_is _ c.args.names.now c.args.call c.in-4.is c.words_of-new_positions.ensures) (c.delete_rows.ensures (delete_lent _ _ c.requires.checked_value) _)
-
-pub shape_of-snapshots-in-100 : goal.shape_of-snapshots-in-100
-shape_of-snapshots-in-100 c = c.expire_snapshots.auto.snapshots
-
-pub shape_of-schemas-in-100 : goal.shape_of-schemas-in-100
-shape_of-schemas-in-100 c = c.expire_snapshots.auto.schemas
-
-pub shape_of-schema_names-in-100 : goal.shape_of-schema_names-in-100
-shape_of-schema_names-in-100 c = c.expire_snapshots.auto.schema_names
-
-pub shape_of-tables-in-100 : goal.shape_of-tables-in-100
-shape_of-tables-in-100 c = c.expire_snapshots.auto.tables
-
-pub shape_of-table_names-in-100 : goal.shape_of-table_names-in-100
-shape_of-table_names-in-100 c = c.expire_snapshots.auto.table_names
-
-pub shape_of-columns-in-100 : goal.shape_of-columns-in-100
-shape_of-columns-in-100 c = c.expire_snapshots.auto.columns
-
-pub shape_of-column_names-in-100 : goal.shape_of-column_names-in-100
-shape_of-column_names-in-100 c = c.expire_snapshots.auto.column_names
-
-pub shape_of-data_files-in-100 : goal.shape_of-data_files-in-100
-shape_of-data_files-in-100 c = c.expire_snapshots.auto.data_files
-
-pub shape_of-delete_files-in-100 : goal.shape_of-delete_files-in-100
-shape_of-delete_files-in-100 c = c.expire_snapshots.auto.delete_files
-
-pub shape_of-positions-in-100 : goal.shape_of-positions-in-100
-shape_of-positions-in-100 c = c.expire_snapshots.auto.positions
-
-pub shape_of-statistics-in-100 : goal.shape_of-statistics-in-100
-shape_of-statistics-in-100 c = c.expire_snapshots.auto.statistics
-
-pub shape_of-scheduled-in-100 : goal.shape_of-scheduled-in-100
-shape_of-scheduled-in-100 c = c.expire_snapshots.auto.scheduled
+    promise_of _ _ _ (delete_is _ c.args.names.now c.args.call c.in-4.is c.part_of-new_positions.ensures) (c.delete_rows.ensures (delete_lent _ _ c.requires.checked_value) _)
 
 pub returns-in-100 : goal.returns-in-100
 returns-in-100 c =
-    promise_of _ _ _ (expire_is _ c.args.names.now c.args.call c.in-100.is c.words_of-ids.ensures) (c.expire_snapshots.ensures _)
-
-pub shape_of-snapshots-in-102 : goal.shape_of-snapshots-in-102
-shape_of-snapshots-in-102 c = c.start.auto.snapshots
-
-pub shape_of-schemas-in-102 : goal.shape_of-schemas-in-102
-shape_of-schemas-in-102 c = c.start.auto.schemas
-
-pub shape_of-schema_names-in-102 : goal.shape_of-schema_names-in-102
-shape_of-schema_names-in-102 c = c.start.auto.schema_names
+    promise_of _ _ _ (expire_is _ c.args.names.now c.args.call c.in-100.is c.part_of-ids.ensures) (c.expire_snapshots.ensures _)
 
 pub returns-in-102 : goal.returns-in-102
 returns-in-102 c =
     promise_of _ _ _ (fresh-is c.args.lists.now c.args.names.now c.args.call c.in-102.is) (c.start.ensures (fresh_lent _ (ap (λ k. k.room) c.requires.checked_value)) _)
-
-pub shape_of-scheduled-in_default : goal.shape_of-scheduled-in_default
-shape_of-scheduled-in_default c = c.clean_up.auto.scheduled
-
-pub shape_of-area : goal.shape_of-area
-shape_of-area c = c.clean_up.auto.area
 
 pub returns-in_default : goal.returns-in_default
 returns-in_default c =

@@ -9,15 +9,15 @@ use Rattle.catalog_player.proofs.session.calls_played.Goals as goal
 
 pub count_calls-requires : goal.count_calls-requires
 count_calls-requires c =
-    (played_fit c.args.calls.now c.args.told.now c.smaller-most.ensures).0
+    (played_fit c.args.calls.now c.args.told.now c.min-most.ensures).0
 
 pub returns : goal.returns
 unfolding calls_played
 returns c =
     let a = c.args in
-    let m = counted_most a.calls.now (length a.lists.now) (length a.names.now) c.smaller-most.result in
-    let f = played_fit a.calls.now a.told.now c.smaller-most.ensures in (
-      c.count_calls.ensures ∙ ap (call_count a.calls.now (length a.lists.now) (length a.names.now)) c.smaller-most.ensures,
+    let m = counted_most a.calls.now (length a.lists.now) (length a.names.now) c.min-most.result in
+    let f = played_fit a.calls.now a.told.now c.min-most.ensures in (
+      c.count_calls.ensures ∙ ap (call_count a.calls.now (length a.lists.now) (length a.names.now)) c.min-most.ensures,
       omega (arith, m, f.0, c.count_calls.ensures),
       omega (arith, m, f.1, c.count_calls.ensures),
     )

@@ -18,11 +18,13 @@ offset_bounds-area-answered c =
     omega (arith, c.loop-i.invariant.0.area, c.loop-i.invariant.0.playing.room)
 
 -- the answers so far are words of the area
+
 pub slice_bounds-play-count : goal.slice_bounds-play-count
 slice_bounds-play-count c =
     c.loop-i.invariant.0.playing.room
 
 -- the answers so far are words of the area
+
 pub slice_bounds-play-start : goal.slice_bounds-play-start
 slice_bounds-play-start c =
     c.loop-i.invariant.0.playing.room
@@ -46,14 +48,6 @@ pub overflow_add-answered : goal.overflow_add-answered
 overflow_add-answered c =
     omega (arith, answer_fits (asked_of _ _ _) _ _ c.loop-i.area c.loop-i.answered c.loop-i.invariant.0.playing.room c.play-outcome.ensures, c.loop-i.invariant.0.area)
 
-pub overflow_add-i : goal.overflow_add-i
-overflow_add-i c =
-    omega (arith, c.loop-i-test.true, c.calls_played-n.ensures.1)
-
-pub loop-i-smaller : goal.loop-i-smaller
-loop-i-smaller c =
-    omega (arith, c.loop-i-test.true)
-
 pub loop-i-preserved : goal.loop-i-preserved
 loop-i-preserved c =
     let k = c.play-outcome.auto in
@@ -62,48 +56,6 @@ loop-i-preserved c =
           same c.play-outcome.auto.area c.write_outcome.ensures c.write_outcome.auto.w,
       lasts (asked_of _ _ _) _ _ _ c.play-outcome.ensures same c.judge-judged.ensures.1,
     )
-
-pub shape_of-snapshots : goal.shape_of-snapshots
-shape_of-snapshots c = as_long 0 c.loop-i.invariant.0.runs
-
-pub shape_of-schemas : goal.shape_of-schemas
-shape_of-schemas c = as_long 1 c.loop-i.invariant.0.runs
-
-pub shape_of-schema_names : goal.shape_of-schema_names
-shape_of-schema_names c = as_long 2 c.loop-i.invariant.0.runs
-
-pub shape_of-tables : goal.shape_of-tables
-shape_of-tables c = as_long 3 c.loop-i.invariant.0.runs
-
-pub shape_of-table_names : goal.shape_of-table_names
-shape_of-table_names c = as_long 4 c.loop-i.invariant.0.runs
-
-pub shape_of-columns : goal.shape_of-columns
-shape_of-columns c = as_long 5 c.loop-i.invariant.0.runs
-
-pub shape_of-column_names : goal.shape_of-column_names
-shape_of-column_names c = as_long 6 c.loop-i.invariant.0.runs
-
-pub shape_of-data_files : goal.shape_of-data_files
-shape_of-data_files c = as_long 7 c.loop-i.invariant.0.runs
-
-pub shape_of-delete_files : goal.shape_of-delete_files
-shape_of-delete_files c = as_long 8 c.loop-i.invariant.0.runs
-
-pub shape_of-positions : goal.shape_of-positions
-shape_of-positions c = as_long 9 c.loop-i.invariant.0.runs
-
-pub shape_of-statistics : goal.shape_of-statistics
-shape_of-statistics c = as_long 10 c.loop-i.invariant.0.runs
-
-pub shape_of-scheduled : goal.shape_of-scheduled
-shape_of-scheduled c = as_long 11 c.loop-i.invariant.0.runs
-
-pub shape_of-area : goal.shape_of-area
-shape_of-area c = c.loop-i.invariant.0.area
-
-pub shape_of-told : goal.shape_of-told
-shape_of-told c = c.loop-i.invariant.0.told
 
 pub returns : goal.returns
 returns c =

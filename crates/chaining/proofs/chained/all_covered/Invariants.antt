@@ -1,5 +1,5 @@
 -- `all_covered` meets its contract: the loop tests the data file of each delete file.
-use Prim.Native.Nat.{ℕ, ◌-◌, ◌≤◌}
+use Prim.Native.Nat.{ℕ}
 use mathlib.Core.Path.{◌≡◌}
 use mathlib.Core.Bool.{Bool, not, ◌||◌}
 use mathlib.Core.List.{List}
@@ -18,7 +18,4 @@ abbrev pub covered : List ℕ → ℕ → (ℕ → Bool) → Versioned DeleteFil
 covered fs n q d = test fs n q d.body.data_file
 
 abbrev pub invariant-loop-i : goal.invariant-loop-i
-invariant-loop-i l = (l.i ≤ l.m) × ((p : List ℕ) (q : ℕ → Bool) → Flags (λ j. q (data_file_at l.data_files j).id) l.n l.flags → all (covered l.data_files l.n q) (delete_files_in l.delete_files p l.m) ≡ all (covered l.data_files l.n q) (from (delete_file_at l.delete_files p) l.i l.m))
-
-abbrev pub decreases-loop-i : goal.decreases-loop-i
-decreases-loop-i l = l.m - l.i
+invariant-loop-i l = (p : List ℕ) (q : ℕ → Bool) → Flags (λ j. q (data_file_at l.data_files j).id) l.n l.flags → all (covered l.data_files l.n q) (delete_files_in l.delete_files p l.m) ≡ all (covered l.data_files l.n q) (from (delete_file_at l.delete_files p) l.i l.m)

@@ -1,5 +1,5 @@
 -- `count_due` meets its contract: each turn counts the record at its place, as the definition does.
-use Prim.Native.Nat.{◌≤◌, ◌-◌}
+use Prim.Native.Nat.{◌≤◌}
 use mathlib.Core.Path.{◌≡◌}
 use lib.ListN.{length}
 use Rattle.lists.proofs.Loops.{counted}
@@ -9,7 +9,4 @@ use Rattle.cleanup.specs.Handed.{due_in}
 use Rattle.cleanup.proofs.due.count_due.Given as goal
 
 abbrev pub invariant-loop-i : goal.invariant-loop-i
-invariant-loop-i l = (l.k ≤ l.i) × (l.i ≤ l.n) × (length (due_in l.scheduled l.n l.t) ≡ counted (scheduled_at l.scheduled) (due l.t) l.n l.k l.i)
-
-abbrev pub decreases-loop-i : goal.decreases-loop-i
-decreases-loop-i l = l.n - l.i
+invariant-loop-i l = (l.k ≤ l.i) × (length (due_in l.scheduled l.n l.t) ≡ counted (scheduled_at l.scheduled) (due l.t) l.n l.k l.i)

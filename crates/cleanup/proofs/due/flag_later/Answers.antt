@@ -8,14 +8,11 @@ use Rattle.cleanup.specs.Handed.{stays_at}
 use Rattle.cleanup.proofs.due.flag_later.Goals as goal
 
 pub loop-i-init : goal.loop-i-init
-loop-i-init c = (omega arith, omega arith, flags_start _ _)
+loop-i-init c = flags_start _ _
 
 pub loop-i-preserved : goal.loop-i-preserved
-loop-i-preserved c = (
-  omega arith,
-  omega arith,
-  flags_next (stays_at c.args.scheduled.now c.args.t) _ _ _ c.loop-i.invariant.2 (omega arith) (ap not (c.is_due-due.ensures ∙ ap (λ x. ltb x c.args.t) c.scheduled_start-start.ensures)) c.set_flag.ensures,
-)
+loop-i-preserved c =
+    flags_next (stays_at c.args.scheduled.now c.args.t) _ _ _ c.loop-i.invariant (omega arith) (ap not (c.is_due-due.ensures ∙ ap (λ x. ltb x c.args.t) c.scheduled_start-start.ensures)) c.set_flag.ensures
 
 pub returns : goal.returns
-returns c = let f = c.loop-i.invariant.2 in record { set = λ j h. f.set j (omega (arith, h, c.loop-i-test.false)) }
+returns c = let f = c.loop-i.invariant in record { set = λ j h. f.set j (omega (arith, h, c.loop-i-test.false)) }

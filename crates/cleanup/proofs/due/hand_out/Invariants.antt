@@ -1,7 +1,5 @@
 -- `hand_out` meets its contract: each turn lays the words of the record at its place, if it is due, behind those laid before.
-use Prim.Native.Nat.{◌≤◌, ◌-◌}
 use mathlib.Core.Path.{◌≡◌}
-use lib.ListN.{length}
 use Rattle.lists.proofs.Writes.{laid}
 use Rattle.layout.specs.Words.{scheduled_at}
 use Rattle.ducklake.specs.Maintenance.{due, handed_words}
@@ -9,7 +7,4 @@ use Rattle.cleanup.proofs.due.hand_out.Given as goal
 
 abbrev pub invariant-loop-i : goal.invariant-loop-i
 invariant-loop-i l =
-    (l.i ≤ l.n) × (length l.area ≡ length l.initial.area) × (laid (scheduled_at l.scheduled) (due l.t) l.n handed_words l.initial.area 0 0 ≡ laid (scheduled_at l.scheduled) (due l.t) l.n handed_words l.area l.k l.i)
-
-abbrev pub decreases-loop-i : goal.decreases-loop-i
-decreases-loop-i l = l.n - l.i
+    laid (scheduled_at l.scheduled) (due l.t) l.n handed_words l.initial.area 0 0 ≡ laid (scheduled_at l.scheduled) (due l.t) l.n handed_words l.area l.k l.i

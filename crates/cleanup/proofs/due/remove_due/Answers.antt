@@ -4,4 +4,4 @@ use Rattle.cleanup.proofs.due.remove_due.Goals as goal
 
 pub returns : goal.returns
 returns c =
-    compacted_as _ (λ j h. c.flag_later.ensures.set j h) c.keep_records.ensures
+    compacted_as _ (λ j h. c.flag_later.ensures.set j h) c.keep_rows.ensures

@@ -1,26 +1,20 @@
--- `schema_name_is_free` meets its contract: the loop goes on while no schema takes the name.
-use mathlib.Core.Path.{sym, ap, ◌∙◌}
-use mathlib.Core.Bool.{not}
-use native.Mathlib.Omega.{arith}
-use Rattle.lists.proofs.Loops.{all_start, all_pass, all_fail, all_end}
-use Rattle.ducklake.specs.Liveness.{schemas_at}
-use Rattle.commits.proofs.Lives.{none_live}
+-- `schema_name_is_free` meets its contract: the chain tests each schema.
+use Rattle.std.proofs.Common.{rules, sym, ap, ◌∙◌, Bool, not, ◌&&◌}
+use Rattle.lists.specs.Lists.{any}
+use Rattle.lists.proofs.Chains.{any_chain}
+use Rattle.lists.proofs.Loops.{from_all}
+use Rattle.lists.proofs.Selections.{any_both}
+use Rattle.layout.specs.Catalog.{Versioned, Schema}
+use Rattle.layout.specs.Names.{padded}
+use Rattle.layout.specs.Words.{schema_at}
+use Rattle.ducklake.specs.Arguments.{clashes}
+use Rattle.ducklake.specs.Liveness.{live, schemas_at}
 use Rattle.commits.proofs.name.schema_name_is_free.Goals as goal
 
-pub loop-i-init : goal.loop-i-init
-unfolding schemas_at
-loop-i-init c = (omega arith, none_live _ _ _ ∙ all_start _ _ _)
-
-pub schema_takes_name-taken-requires : goal.schema_takes_name-taken-requires
-schema_takes_name-taken-requires c = (c.requires, c.loop-i-test.true)
-
-pub returns-then-taken : goal.returns-then-taken
-returns-then-taken c =
-    sym (c.loop-i.invariant.1 ∙ all_fail _ _ _ _ c.loop-i-test.true (ap not (sym c.schema_takes_name-taken.ensures ∙ c.if-taken.true)))
-
-pub loop-i-preserved : goal.loop-i-preserved
-loop-i-preserved c =
-    (omega arith, c.loop-i.invariant.1 ∙ all_pass _ _ _ _ c.loop-i-test.true (ap not (sym c.schema_takes_name-taken.ensures ∙ c.if-taken.false)))
-
 pub returns : goal.returns
-returns c = sym (c.loop-i.invariant.1 ∙ all_end _ _ _ _ c.loop-i-test.false)
+unfolding schemas_at
+returns c =
+    let a = c.args in
+    let taken : Versioned Schema → Bool = λ v. clashes v.body.name (padded a.name.now) && live a.s.0 v in
+    ap not (any_chain taken (schema_at a.schemas.now a.names.now) 0 a.n c.any.ensures.ran (λ i q k. search rules) (λ i q k. search rules)
+    ∙ sym (ap (any taken) (from_all (schema_at a.schemas.now a.names.now) a.n)) ∙ sym (any_both _ _ _))

@@ -1,5 +1,5 @@
 -- `schema_is_empty` meets its contract: the loop goes on while no table is live in the schema.
-use Prim.Native.Nat.{ℕ, ◌-◌, ◌≤◌}
+use Prim.Native.Nat.{ℕ}
 use mathlib.Core.Path.{◌≡◌}
 use mathlib.Core.Bool.{Bool, not, ◌&&◌}
 use mathlib.Core.List.{List}
@@ -16,7 +16,4 @@ elsewhere schema s t = not (eqb t.body.schema schema && live s t)
 
 abbrev pub invariant-loop-i : goal.invariant-loop-i
 invariant-loop-i l =
-    (l.i ≤ l.n) × ((names : List ℕ) → not (non_empty (tables_at (tables_in l.tables names l.n) l.s.0 l.schema.0)) ≡ all (elsewhere l.schema.0 l.s.0) (from (table_at l.tables names) l.i l.n))
-
-abbrev pub decreases-loop-i : goal.decreases-loop-i
-decreases-loop-i l = l.n - l.i
+    (names : List ℕ) → not (non_empty (tables_at (tables_in l.tables names l.n) l.s.0 l.schema.0)) ≡ all (elsewhere l.schema.0 l.s.0) (from (table_at l.tables names) l.i l.n)

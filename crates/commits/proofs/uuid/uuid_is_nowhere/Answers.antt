@@ -18,7 +18,7 @@ compared : (uuid : Uuid) (size word : ℕ) (run : List ℕ) (i : ℕ) {h l : ℕ
 compared uuid size word run i e f g = rw (← e, ← f, g) refl
 
 pub loop-i-init : goal.loop-i-init
-loop-i-init c = (omega arith, all_start _ _ _)
+loop-i-init c = all_start _ _ _
 
 pub field_at-high-requires : goal.field_at-high-requires
 field_at-high-requires c = let p = c.requires in (record_fits _ c.loop-i-test.true p.0, omega (arith, p.1))
@@ -26,13 +26,13 @@ field_at-high-requires c = let p = c.requires in (record_fits _ c.loop-i-test.tr
 pub field_at-low-requires : goal.field_at-low-requires
 field_at-low-requires c = let p = c.requires in (record_fits _ c.loop-i-test.true p.0, p.1)
 
-pub returns-then-uuid-high : goal.returns-then-uuid-high
-returns-then-uuid-high c =
-    sym (c.loop-i.invariant.1 ∙ all_fail _ _ _ _ c.loop-i-test.true (compared _ _ _ _ _ c.field_at-high.ensures c.field_at-low.ensures c.if-uuid-high.true))
+pub returns-then-eq : goal.returns-then-eq
+returns-then-eq c =
+    sym (c.loop-i.invariant ∙ all_fail _ _ _ _ c.loop-i-test.true (compared _ _ _ _ _ c.field_at-high.ensures c.field_at-low.ensures (sym c.eq.ensures ∙ c.if-eq.true)))
 
 pub loop-i-preserved : goal.loop-i-preserved
 loop-i-preserved c =
-    (omega arith, c.loop-i.invariant.1 ∙ all_pass _ _ _ _ c.loop-i-test.true (compared _ _ _ _ _ c.field_at-high.ensures c.field_at-low.ensures c.if-uuid-high.false))
+    c.loop-i.invariant ∙ all_pass _ _ _ _ c.loop-i-test.true (compared _ _ _ _ _ c.field_at-high.ensures c.field_at-low.ensures (sym c.eq.ensures ∙ c.if-eq.false))
 
 pub returns : goal.returns
-returns c = sym (c.loop-i.invariant.1 ∙ all_end _ _ _ _ c.loop-i-test.false)
+returns c = sym (c.loop-i.invariant ∙ all_end _ _ _ _ c.loop-i-test.false)

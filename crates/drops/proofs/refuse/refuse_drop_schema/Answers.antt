@@ -37,7 +37,7 @@ unfolding change_of
 returns c w p q r k m =
     let l = c.latest_snapshot-latest.ensures in
     let s = is_sound_lem w _ k c.if-not-checked.false in
-    commit_judged w _ k s m _ _ (drop_schema_adds _ _ _) c.first_refusal.ensures
+    commit_judged w _ k s m _ _ (drop_schema_adds _ _ _) c.first_refused.ensures
     (schema_live_as w _ p l _ q (c.schema_is_live-live.ensures w.schema_names) then λ _.
     time_as w _ p l _ c.is_in_time-in_time.ensures then λ _.
     empty_as w _ p l _ r (c.schema_is_empty-empty.ensures w.table_names) then λ _.

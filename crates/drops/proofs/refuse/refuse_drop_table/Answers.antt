@@ -32,7 +32,7 @@ unfolding change_of
 returns c w p q k m =
     let l = c.latest_snapshot-latest.ensures in
     let s = is_sound_lem w _ k c.if-not-checked.false in
-    commit_judged w _ k s m _ _ (drop_table_adds _ _ _) c.first_refusal.ensures
+    commit_judged w _ k s m _ _ (drop_table_adds _ _ _) c.first_refused.ensures
     (table_live_as w _ p l _ q (c.table_is_live-live.ensures w.table_names) then λ _.
     time_as w _ p l _ c.is_in_time-in_time.ensures then λ _.
     numbers_as w _ p l _ 0 0 s (λ t. refl) refl refl (c.snapshot_fits-fits.ensures ∙ ap snapshot_in_range c.next_snapshot-next.ensures) then λ _.

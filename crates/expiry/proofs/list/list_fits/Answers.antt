@@ -1,13 +1,13 @@
 -- `list_fits` meets its contract: an empty list has length 0.
 use Prim.Native.Nat.{ℕ}
 use mathlib.Core.Path.{◌≡◌, refl, sym, ap, ◌∙◌}
-use mathlib.Core.Bool.{false}
+use mathlib.Core.Bool.{false, not}
 use mathlib.Core.List.{List, [], ◌∷◌}
 use native.Mathlib.Omega.{arith}
+use borrow.Author.Tests.{eqb-true, eqb-false}
 use lib.Dec.{ltb}
 use lib.ListN.{length}
 use Rattle.lists.specs.Lists.{any, chained}
-use Rattle.lists.proofs.Layouts.{fields_words}
 use Rattle.ducklake.specs.Arguments.{expiry_list_fits}
 use Rattle.expiry.proofs.list.list_fits.Goals as goal
 
@@ -21,10 +21,10 @@ unfolding expiry_list_fits any
 fits_some [] e = absurd (e refl)
 fits_some (x ∷ xs) e = refl
 
-pub returns-then-ids-eq0 : goal.returns-then-ids-eq0
-returns-then-ids-eq0 c = sym (fits_not c.args.ids.now c.if-ids-eq0.true)
+pub returns-then-not-is_empty : goal.returns-then-not-is_empty
+returns-then-not-is_empty c =
+    c.words_ascend.ensures ∙ fits_some c.args.ids.now (eqb-false _ _ (sym c.is_empty.ensures ∙ c.if-not-is_empty.true))
 
-pub returns : goal.returns
-returns c =
-    let ids = c.args.ids.now in
-    c.fields_ascend.ensures ∙ (ap (chained ltb) (fields_words ids _ refl) ∙ fits_some ids c.if-ids-eq0.false)
+pub returns-else-not-is_empty : goal.returns-else-not-is_empty
+returns-else-not-is_empty c =
+    ap not c.if-not-is_empty.false ∙ sym (fits_not c.args.ids.now (eqb-true _ _ (sym c.is_empty.ensures ∙ c.if-not-is_empty.false)))

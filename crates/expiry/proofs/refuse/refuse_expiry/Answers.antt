@@ -1,6 +1,5 @@
 -- `refuse_expiry` meets its contract: its tests, folded in the definition's order.
 use mathlib.Core.Path.{refl}
-use borrow.Author.Tests.{not-false}
 use Rattle.ducklake.specs.Calls.{answer}
 use Rattle.refusals.proofs.Laws.{is_sound_lem, unsound}
 use Rattle.refusals.proofs.Tests.{◌then◌, done, call_judged}
@@ -10,24 +9,11 @@ use Rattle.expiry.proofs.refuse.refuse_expiry.Goals as goal
 pub returns-then-not-checked : goal.returns-then-not-checked
 returns-then-not-checked c w p q r k m time = unsound w _ k m _ c.if-not-checked.true
 
-pub all_retained-retained-requires : goal.all_retained-retained-requires
-all_retained-retained-requires c =
-    (c.requires (not-false _ c.if-not-checked.false)).snapshots
-
-pub latest_snapshot-latest-requires : goal.latest_snapshot-latest-requires
-latest_snapshot-latest-requires c =
-    let p = c.requires (not-false _ c.if-not-checked.false) in
-    (p.snapshots.lent, p.some)
-
-pub count_files_removed-removed-requires : goal.count_files_removed-removed-requires
-count_files_removed-removed-requires c =
-    c.requires (not-false _ c.if-not-checked.false)
-
 pub returns : goal.returns
 unfolding answer
 returns c w p q r k m time =
     let s = is_sound_lem w _ k c.if-not-checked.false in
-    call_judged w _ s m _ refl refl c.first_refusal.ensures
+    call_judged w _ s m _ refl refl c.first_refused.ensures
     (retained_as w _ _ p c.all_retained-retained.ensures then λ _.
     c.list_fits-fits.ensures then λ list_fits.
     latest_as w _ _ p c.latest_snapshot-latest.ensures c.lacks-keeps_latest.ensures then λ _.

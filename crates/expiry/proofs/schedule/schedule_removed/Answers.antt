@@ -1,111 +1,62 @@
 -- `schedule_removed` meets its contract: each turn passes the file of the lowest id that is left, and writes it, if it goes, behind those written before.
-use Prim.Native.Nat.{◌≤◌, ◌<◌, ◌+◌, ◌*◌}
-use mathlib.Core.Path.{refl}
+use mathlib.Core.Path.{ap}
+use mathlib.Core.Bool.{not}
 use native.Mathlib.Omega.{arith}
-use lib.ListN.{length}
-use Rattle.layout.specs.Fields.{scheduled_size}
-use Rattle.expiry.proofs.Merged.{Turn, next_data_file, data_file_fits, data_file_scheduled_lem, data_file_kept, next_delete_file, delete_file_fits, delete_file_scheduled_lem, delete_file_kept, scheduling_done}
+use Rattle.expiry.proofs.Merged.{next_data_file, data_file_fits, data_file_scheduled_lem, data_file_kept, next_delete_file, delete_file_fits, delete_file_scheduled_lem, delete_file_kept, scheduling_done}
+use Rattle.expiry.proofs.schedule.schedule_removed.Goals.{then-not-live, else-not-live, then-not-live-2, else-not-live-2}
 use Rattle.expiry.proofs.schedule.schedule_removed.Goals as goal
 
-pub loop-i-init : goal.loop-i-init
-loop-i-init c = (omega arith, omega arith, omega arith, refl)
+-- the next is a data file
+pub stays-live-requires : goal.stays-live-requires
+stays-live-requires c =
+    next_data_file c.loop-i.invariant c.data_file_next-first.ensures c.if-first.true
 
-pub data_file_next-first-requires : goal.data_file_next-first-requires
-data_file_next-first-requires c =
-    (c.requires.0.data_files_by_id.lent, c.requires.0.delete_files_by_id.lent)
+pub data_file_at-f-requires : goal.data_file_at-f-requires
+data_file_at-f-requires c =
+    omega (arith, c.requires.0.data_files_by_id.lent, next_data_file c.loop-i.invariant c.data_file_next-first.ensures c.if-first.true)
 
-pub overflow_add-i-then-first : goal.overflow_add-i-then-first
-overflow_add-i-then-first c =
-    let turn : (let a = c.args in Turn a.data_files.now a.n a.delete_files.now a.k a.left.now a.m a.time a.scheduled.now a.used c.loop-i.scheduled c.loop-i.at c.loop-i.i c.loop-i.j) = let v = c.loop-i.invariant in record { tables = c.requires.0; room = c.requires.1; data_files_left = v.0; delete_files_left = v.1; same_length = v.2; comes_to = v.3 } in
-    let data_next : c.loop-i.i < c.args.n = next_data_file turn c.data_file_next-first.ensures c.if-first.true in
-    omega (arith, data_next)
-
-pub stays_at-live-requires : goal.stays_at-live-requires
-stays_at-live-requires c =
-    let turn : (let a = c.args in Turn a.data_files.now a.n a.delete_files.now a.k a.left.now a.m a.time a.scheduled.now a.used c.loop-i.scheduled c.loop-i.at c.loop-i.i c.loop-i.j) = let v = c.loop-i.invariant in record { tables = c.requires.0; room = c.requires.1; data_files_left = v.0; delete_files_left = v.1; same_length = v.2; comes_to = v.3 } in
-    let data_next : c.loop-i.i < c.args.n = next_data_file turn c.data_file_next-first.ensures c.if-first.true in
-    (c.requires.0.data_file_versions, data_next)
-
-pub schedule_data_file-requires : goal.schedule_data_file-requires
-schedule_data_file-requires c =
-    let turn : (let a = c.args in Turn a.data_files.now a.n a.delete_files.now a.k a.left.now a.m a.time a.scheduled.now a.used c.loop-i.scheduled c.loop-i.at c.loop-i.i c.loop-i.j) = let v = c.loop-i.invariant in record { tables = c.requires.0; room = c.requires.1; data_files_left = v.0; delete_files_left = v.1; same_length = v.2; comes_to = v.3 } in
-    let data_next : c.loop-i.i < c.args.n = next_data_file turn c.data_file_next-first.ensures c.if-first.true in
-    let data_fits : scheduled_size * c.loop-i.at + scheduled_size ≤ length c.loop-i.scheduled = data_file_fits turn c.data_file_next-first.ensures c.if-first.true c.stays_at-live.ensures c.if-not-live.true-raw in
-    (data_fits, omega (arith, c.requires.0.data_files_by_id.lent, data_next))
+pub schedule_file-requires : goal.schedule_file-requires
+schedule_file-requires c =
+    data_file_fits c.loop-i.invariant c.data_file_next-first.ensures c.if-first.true c.stays-live.ensures (ap not c.if-not-live.true)
 
 pub overflow_add-at : goal.overflow_add-at
 overflow_add-at c =
-    let turn : (let a = c.args in Turn a.data_files.now a.n a.delete_files.now a.k a.left.now a.m a.time a.scheduled.now a.used c.loop-i.scheduled c.loop-i.at c.loop-i.i c.loop-i.j) = let v = c.loop-i.invariant in record { tables = c.requires.0; room = c.requires.1; data_files_left = v.0; delete_files_left = v.1; same_length = v.2; comes_to = v.3 } in
-    let data_fits : scheduled_size * c.loop-i.at + scheduled_size ≤ length c.loop-i.scheduled = data_file_fits turn c.data_file_next-first.ensures c.if-first.true c.stays_at-live.ensures c.if-not-live.true-raw in
-    omega (arith, data_fits)
+    omega (arith, data_file_fits c.loop-i.invariant c.data_file_next-first.ensures c.if-first.true c.stays-live.ensures (ap not c.if-not-live.true))
 
-pub loop-i-preserved-then-not-live : goal.loop-i-preserved-then-not-live
-loop-i-preserved-then-not-live c =
-    let turn : (let a = c.args in Turn a.data_files.now a.n a.delete_files.now a.k a.left.now a.m a.time a.scheduled.now a.used c.loop-i.scheduled c.loop-i.at c.loop-i.i c.loop-i.j) = let v = c.loop-i.invariant in record { tables = c.requires.0; room = c.requires.1; data_files_left = v.0; delete_files_left = v.1; same_length = v.2; comes_to = v.3 } in
-    let data_next : c.loop-i.i < c.args.n = next_data_file turn c.data_file_next-first.ensures c.if-first.true in (
-      omega (arith, data_next),
-      omega arith,
-      omega arith,
-      data_file_scheduled_lem turn c.data_file_next-first.ensures c.if-first.true c.stays_at-live.ensures c.if-not-live.true-raw _ c.schedule_data_file.ensures,
-    )
+pub loop-i-preserved-then-first : goal.loop-i-preserved-then-first
+loop-i-preserved-then-first c = elim c.if-not-live.branch [
+  | then-not-live w ↦ rw (w.scheduled-is, w.at-is)
+      (data_file_scheduled_lem c.loop-i.invariant c.data_file_next-first.ensures c.if-first.true c.stays-live.ensures (ap not w.if-not-live.true)
+      w.data_file_at-f.ensures w.schedule_file.ensures w.schedule_file.auto.scheduled)
+  | else-not-live w ↦ rw (w.scheduled-is, w.at-is)
+      (data_file_kept c.loop-i.invariant c.data_file_next-first.ensures c.if-first.true c.stays-live.ensures (ap not w.if-not-live.false))
+]
 
-pub loop-i-preserved-else-not-live : goal.loop-i-preserved-else-not-live
-loop-i-preserved-else-not-live c =
-    let turn : (let a = c.args in Turn a.data_files.now a.n a.delete_files.now a.k a.left.now a.m a.time a.scheduled.now a.used c.loop-i.scheduled c.loop-i.at c.loop-i.i c.loop-i.j) = let v = c.loop-i.invariant in record { tables = c.requires.0; room = c.requires.1; data_files_left = v.0; delete_files_left = v.1; same_length = v.2; comes_to = v.3 } in
-    let data_next : c.loop-i.i < c.args.n = next_data_file turn c.data_file_next-first.ensures c.if-first.true in (
-      omega (arith, data_next),
-      omega arith,
-      omega arith,
-      data_file_kept turn c.data_file_next-first.ensures c.if-first.true c.stays_at-live.ensures c.if-not-live.false-raw,
-    )
+-- the next is a delete file
+pub stays-live-requires-else-first : goal.stays-live-requires-else-first
+stays-live-requires-else-first c =
+    next_delete_file c.loop-i.invariant c.data_file_next-first.ensures c.loop-i-test.true c.if-first.false
 
-pub overflow_add-j : goal.overflow_add-j
-overflow_add-j c =
-    let turn : (let a = c.args in Turn a.data_files.now a.n a.delete_files.now a.k a.left.now a.m a.time a.scheduled.now a.used c.loop-i.scheduled c.loop-i.at c.loop-i.i c.loop-i.j) = let v = c.loop-i.invariant in record { tables = c.requires.0; room = c.requires.1; data_files_left = v.0; delete_files_left = v.1; same_length = v.2; comes_to = v.3 } in
-    let delete_next : c.loop-i.j < c.args.k = next_delete_file turn c.data_file_next-first.ensures c.loop-i-test.true c.if-first.false in
-    omega (arith, delete_next)
+pub delete_file_at-d-requires : goal.delete_file_at-d-requires
+delete_file_at-d-requires c =
+    omega (arith, c.requires.0.delete_files_by_id.lent, next_delete_file c.loop-i.invariant c.data_file_next-first.ensures c.loop-i-test.true c.if-first.false)
 
-pub stays_at-live-requires-else-first : goal.stays_at-live-requires-else-first
-stays_at-live-requires-else-first c =
-    let turn : (let a = c.args in Turn a.data_files.now a.n a.delete_files.now a.k a.left.now a.m a.time a.scheduled.now a.used c.loop-i.scheduled c.loop-i.at c.loop-i.i c.loop-i.j) = let v = c.loop-i.invariant in record { tables = c.requires.0; room = c.requires.1; data_files_left = v.0; delete_files_left = v.1; same_length = v.2; comes_to = v.3 } in
-    let delete_next : c.loop-i.j < c.args.k = next_delete_file turn c.data_file_next-first.ensures c.loop-i-test.true c.if-first.false in
-    (c.requires.0.delete_file_versions, delete_next)
-
-pub schedule_delete_file-requires : goal.schedule_delete_file-requires
-schedule_delete_file-requires c =
-    let turn : (let a = c.args in Turn a.data_files.now a.n a.delete_files.now a.k a.left.now a.m a.time a.scheduled.now a.used c.loop-i.scheduled c.loop-i.at c.loop-i.i c.loop-i.j) = let v = c.loop-i.invariant in record { tables = c.requires.0; room = c.requires.1; data_files_left = v.0; delete_files_left = v.1; same_length = v.2; comes_to = v.3 } in
-    let delete_next : c.loop-i.j < c.args.k = next_delete_file turn c.data_file_next-first.ensures c.loop-i-test.true c.if-first.false in
-    let delete_fits : scheduled_size * c.loop-i.at + scheduled_size ≤ length c.loop-i.scheduled = delete_file_fits turn c.data_file_next-first.ensures c.loop-i-test.true c.if-first.false c.stays_at-live-else-first.ensures c.if-not-live-2.true-raw in
-    (delete_fits, omega (arith, c.requires.0.delete_files_by_id.lent, delete_next))
+pub schedule_file-requires-then-not-live-2 : goal.schedule_file-requires-then-not-live-2
+schedule_file-requires-then-not-live-2 c =
+    delete_file_fits c.loop-i.invariant c.data_file_next-first.ensures c.loop-i-test.true c.if-first.false c.stays-live-else-first.ensures (ap not c.if-not-live-2.true)
 
 pub overflow_add-at-then-not-live-2 : goal.overflow_add-at-then-not-live-2
 overflow_add-at-then-not-live-2 c =
-    let turn : (let a = c.args in Turn a.data_files.now a.n a.delete_files.now a.k a.left.now a.m a.time a.scheduled.now a.used c.loop-i.scheduled c.loop-i.at c.loop-i.i c.loop-i.j) = let v = c.loop-i.invariant in record { tables = c.requires.0; room = c.requires.1; data_files_left = v.0; delete_files_left = v.1; same_length = v.2; comes_to = v.3 } in
-    let delete_fits : scheduled_size * c.loop-i.at + scheduled_size ≤ length c.loop-i.scheduled = delete_file_fits turn c.data_file_next-first.ensures c.loop-i-test.true c.if-first.false c.stays_at-live-else-first.ensures c.if-not-live-2.true-raw in
-    omega (arith, delete_fits)
-
-pub loop-i-preserved-then-not-live-2 : goal.loop-i-preserved-then-not-live-2
-loop-i-preserved-then-not-live-2 c =
-    let turn : (let a = c.args in Turn a.data_files.now a.n a.delete_files.now a.k a.left.now a.m a.time a.scheduled.now a.used c.loop-i.scheduled c.loop-i.at c.loop-i.i c.loop-i.j) = let v = c.loop-i.invariant in record { tables = c.requires.0; room = c.requires.1; data_files_left = v.0; delete_files_left = v.1; same_length = v.2; comes_to = v.3 } in
-    let delete_next : c.loop-i.j < c.args.k = next_delete_file turn c.data_file_next-first.ensures c.loop-i-test.true c.if-first.false in (
-      omega arith,
-      omega (arith, delete_next),
-      omega arith,
-      delete_file_scheduled_lem turn c.data_file_next-first.ensures c.loop-i-test.true c.if-first.false c.stays_at-live-else-first.ensures c.if-not-live-2.true-raw _
-          c.schedule_delete_file.ensures,
-    )
+    omega (arith, delete_file_fits c.loop-i.invariant c.data_file_next-first.ensures c.loop-i-test.true c.if-first.false c.stays-live-else-first.ensures (ap not c.if-not-live-2.true))
 
 pub loop-i-preserved : goal.loop-i-preserved
-loop-i-preserved c =
-    let turn : (let a = c.args in Turn a.data_files.now a.n a.delete_files.now a.k a.left.now a.m a.time a.scheduled.now a.used c.loop-i.scheduled c.loop-i.at c.loop-i.i c.loop-i.j) = let v = c.loop-i.invariant in record { tables = c.requires.0; room = c.requires.1; data_files_left = v.0; delete_files_left = v.1; same_length = v.2; comes_to = v.3 } in
-    let delete_next : c.loop-i.j < c.args.k = next_delete_file turn c.data_file_next-first.ensures c.loop-i-test.true c.if-first.false in (
-      omega arith,
-      omega (arith, delete_next),
-      omega arith,
-      delete_file_kept turn c.data_file_next-first.ensures c.loop-i-test.true c.if-first.false c.stays_at-live-else-first.ensures c.if-not-live-2.false-raw,
-    )
+loop-i-preserved c = elim c.if-not-live-2.branch [
+  | then-not-live-2 w ↦ rw (w.scheduled-is, w.at-is)
+      (delete_file_scheduled_lem c.loop-i.invariant c.data_file_next-first.ensures c.loop-i-test.true c.if-first.false c.stays-live-else-first.ensures (ap not w.if-not-live-2.true)
+      w.delete_file_at-d.ensures w.schedule_file-then-not-live-2.ensures w.schedule_file-then-not-live-2.auto.scheduled)
+  | else-not-live-2 w ↦ rw (w.scheduled-is, w.at-is)
+      (delete_file_kept c.loop-i.invariant c.data_file_next-first.ensures c.loop-i-test.true c.if-first.false c.stays-live-else-first.ensures (ap not w.if-not-live-2.false))
+]
 
 pub returns : goal.returns
-returns c =
-    let turn : (let a = c.args in Turn a.data_files.now a.n a.delete_files.now a.k a.left.now a.m a.time a.scheduled.now a.used c.loop-i.scheduled c.loop-i.at c.loop-i.i c.loop-i.j) = let v = c.loop-i.invariant in record { tables = c.requires.0; room = c.requires.1; data_files_left = v.0; delete_files_left = v.1; same_length = v.2; comes_to = v.3 } in
-    scheduling_done turn (omega (arith, c.loop-i-test.false)) (omega (arith, c.loop-i-test.false))
+returns c = scheduling_done c.loop-i.invariant (omega (arith, c.loop-i-test.false)) (omega (arith, c.loop-i-test.false))

@@ -7,5 +7,5 @@ use Rattle.expiry.proofs.table.expire_named.Goals as goal
 pub returns : goal.returns
 returns c =
     let g = c.flag_live.ensures in
-    let w = compacted_as _ (λ j h. g.set j h) c.keep_records.ensures in
-    record { records_left = w; names_left = compacted_beside _ name_size _ _ _ _ (omega (arith, c.requires.versions.inside)) (omega arith) w (compacted_as _ (λ j h. g.set j h) c.keep_places.ensures) }
+    let w = compacted_as _ (λ j h. g.set j h) c.keep_rows-2.ensures in
+    record { records_left = w; names_left = compacted_beside _ name_size _ _ _ _ (omega (arith, c.requires.versions.inside)) (omega arith) w (compacted_as _ (λ j h. g.set j h) c.keep_rows.ensures) }

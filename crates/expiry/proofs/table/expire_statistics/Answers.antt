@@ -4,4 +4,4 @@ use Rattle.expiry.proofs.table.expire_statistics.Goals as goal
 
 pub returns : goal.returns
 returns c =
-    compacted_as _ (λ j h. c.flag_statistics.ensures.set j h) c.keep_records.ensures
+    compacted_as _ (λ j h. c.flag_statistics.ensures.set j h) c.keep_rows.ensures

@@ -1,5 +1,5 @@
--- `keep_positions` meets its contract: each turn moves the positions of its delete file down, if it stays; the rest is cleared.
-use Prim.Native.Nat.{◌≤◌, ◌-◌}
+-- `keep_positions` meets its contract: each turn copies the positions of its delete file down, if it stays; the rest is cleared.
+use Prim.Native.Nat.{◌≤◌}
 use mathlib.Core.Path.{◌≡◌}
 use lib.ListN.{length}
 use Rattle.lists.specs.Pieces.{flagged}
@@ -9,8 +9,5 @@ use Rattle.expiry.proofs.table.keep_positions.Given as goal
 
 abbrev pub invariant-loop-i : goal.invariant-loop-i
 invariant-loop-i l =
-    (l.k ≤ l.at) × (l.at ≡ positions_before l.delete_files l.i) × (l.i ≤ l.n) × (length l.positions ≡ length l.initial.positions)
-    × (compacted (position_pieces l.delete_files) (flagged l.flags) l.n l.initial.positions 0 0 ≡ compacted (position_pieces l.delete_files) (flagged l.flags) l.n l.positions l.k l.i)
-
-abbrev pub decreases-loop-i : goal.decreases-loop-i
-decreases-loop-i l = l.n - l.i
+    (l.k ≤ l.at) × (l.at ≡ positions_before l.delete_files l.i) × (length l.positions ≡ length l.initial.positions)
+    × (compacted 0 (position_pieces l.delete_files) (flagged l.flags) l.n l.initial.positions 0 0 ≡ compacted 0 (position_pieces l.delete_files) (flagged l.flags) l.n l.positions l.k l.i)

@@ -1,5 +1,4 @@
--- `find_file` keeps the promise: unsound tables give an empty part; else it is the part that was found.
-use mathlib.Core.Path.{refl}
+-- `find_file` keeps the promise: unsound tables are refused; else it is what was found.
 use Rattle.refusals.proofs.Laws.{is_sound_lem}
 use Rattle.readings.proofs.Found.{data_files_by_id_lem, delete_files_by_id_lem}
 use Rattle.file_lookup.proofs.Places.{part_refused, part_found}
@@ -7,7 +6,7 @@ use Rattle.file_lookup.proofs.find.find_file.Goals as goal
 
 pub returns-then-not-checked : goal.returns-then-not-checked
 returns-then-not-checked c l =
-    part_refused _ _ _ _ _ _ l.checked c.if-not-checked.true refl
+    part_refused _ _ _ l.checked c.if-not-checked.true
 
 pub find_record-requires : goal.find_record-requires
 find_record-requires c =
@@ -17,4 +16,4 @@ find_record-requires c =
 
 pub returns : goal.returns
 returns c l =
-    part_found _ _ _ _ _ _ l.data_files l.delete_files (is_sound_lem _ _ l.checked c.if-not-checked.false) c.find_record.ensures.lies_at c.find_record.ensures.number_after
+    part_found _ _ _ _ _ l.data_files l.delete_files c.find_record.result (is_sound_lem _ _ l.checked c.if-not-checked.false) c.find_record.ensures

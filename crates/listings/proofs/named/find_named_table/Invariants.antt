@@ -1,5 +1,4 @@
 -- The loop tests each table as the definition does.
-use Prim.Native.Nat.{◌≤◌, ◌-◌}
 use mathlib.Core.Path.{◌≡◌}
 use Rattle.lists.specs.Lists.{place}
 use Rattle.lists.specs.Runs.{from}
@@ -9,7 +8,4 @@ use Rattle.listings.proofs.named.find_named_table.Given as goal
 
 abbrev pub invariant-loop-i : goal.invariant-loop-i
 invariant-loop-i l =
-    (l.i ≤ l.n) × (place_of_named (tables_in l.tables l.names l.n) l.s.0 l.schema.0 l.name ≡ place (is_named l.schema.0 l.s.0 l.name) l.i (from (table_at l.tables l.names) l.i l.n))
-
-abbrev pub decreases-loop-i : goal.decreases-loop-i
-decreases-loop-i l = l.n - l.i
+    place_of_named (tables_in l.tables l.names l.n) l.s.0 l.schema.0 l.name ≡ place (is_named l.schema.0 l.s.0 l.name) l.i (from (table_at l.tables l.names) l.i l.n)

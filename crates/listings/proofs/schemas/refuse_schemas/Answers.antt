@@ -14,6 +14,6 @@ is_retained-there-requires c = snapshots_by_id _ _ (is_sound_lem _ _ c.requires.
 pub returns : goal.returns
 returns c l =
     let w = l.words in
-    reading_judged w _ (is_sound_lem w _ l.checked c.if-not-checked.false) _ c.first_refusal.ensures
+    reading_judged w _ (is_sound_lem w _ l.checked c.if-not-checked.false) _ c.first_refused.ensures
     (retained_as w _ _ l.snapshots c.is_retained-there.ensures then λ _.
     done)

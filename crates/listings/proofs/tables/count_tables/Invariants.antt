@@ -1,5 +1,5 @@
 -- The loop tests each table as the definition does, and counts those that pass.
-use Prim.Native.Nat.{ℕ, ◌≤◌, ◌-◌}
+use Prim.Native.Nat.{ℕ, ◌≤◌}
 use mathlib.Core.Path.{◌≡◌}
 use mathlib.Core.List.{List}
 use lib.ListN.{length}
@@ -11,7 +11,4 @@ use Rattle.listings.proofs.tables.count_tables.Given as goal
 
 abbrev pub invariant-loop-i : goal.invariant-loop-i
 invariant-loop-i l =
-    (l.k ≤ l.i) × (l.i ≤ l.n) × ((names : List ℕ) → length (tables_at (tables_in l.tables names l.n) l.s.0 l.schema.0) ≡ counted (table_at l.tables names) (in_schema l.schema.0 l.s.0) l.n l.k l.i)
-
-abbrev pub decreases-loop-i : goal.decreases-loop-i
-decreases-loop-i l = l.n - l.i
+    (l.k ≤ l.i) × ((names : List ℕ) → length (tables_at (tables_in l.tables names l.n) l.s.0 l.schema.0) ≡ counted (table_at l.tables names) (in_schema l.schema.0 l.s.0) l.n l.k l.i)

@@ -11,4 +11,4 @@ pub returns : goal.returns
 unfolding field live
 returns c names =
     let a = c.args in
-    ap₂ {C = Bool} (λ k b. eqb k.0 a.schema.0 && b) c.table_schema-holder.ensures (c.is_live-live.ensures ∙ ap (λ l. live a.s.0 (with_life l)) c.life_at-l.ensures)
+    ap₂ ◌&&◌ (c.eq.ensures ∙ ap (λ k. eqb k.0 a.schema.0) c.table_schema-holder.ensures) (c.is_live-live.ensures ∙ ap (λ l. live a.s.0 (with_life l)) c.life_at-l.ensures)

@@ -1,5 +1,5 @@
 -- `read_tables` meets its contract: the loop tests each table as the definition does, and writes the ids of those that pass one behind the other: there is room for all of them.
-use Prim.Native.Nat.{ℕ, ◌≤◌, ◌-◌}
+use Prim.Native.Nat.{ℕ, ◌≤◌}
 use mathlib.Core.Path.{◌≡◌}
 use mathlib.Core.List.{List}
 use lib.ListN.{length}
@@ -11,9 +11,5 @@ use Rattle.listings.proofs.tables.read_tables.Given as goal
 
 abbrev pub invariant-loop-i : goal.invariant-loop-i
 invariant-loop-i l =
-    (l.k ≤ l.i) × (l.i ≤ l.n) × (length l.area ≡ length l.initial.area)
-    × ((names : List ℕ) → length (tables_at (tables_in l.tables names l.n) l.s.0 l.schema.0) ≡ counted (table_at l.tables names) (in_schema l.schema.0 l.s.0) l.n l.k l.i)
+    (l.k ≤ l.i) × ((names : List ℕ) → length (tables_at (tables_in l.tables names l.n) l.s.0 l.schema.0) ≡ counted (table_at l.tables names) (in_schema l.schema.0 l.s.0) l.n l.k l.i)
     × ((names : List ℕ) → sent (table_at l.tables names) (in_schema l.schema.0 l.s.0) l.n (λ t. t.id) l.initial.area 0 0 ≡ sent (table_at l.tables names) (in_schema l.schema.0 l.s.0) l.n (λ t. t.id) l.area l.k l.i)
-
-abbrev pub decreases-loop-i : goal.decreases-loop-i
-decreases-loop-i l = l.n - l.i

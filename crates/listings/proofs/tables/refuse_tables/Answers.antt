@@ -17,7 +17,7 @@ schema_is_live-live-requires c = schemas_by_id_lem _ _ (is_sound_lem _ _ c.requi
 pub returns : goal.returns
 returns c l =
     let w = l.words in
-    reading_judged w _ (is_sound_lem w _ l.checked c.if-not-checked.false) _ c.first_refusal.ensures
+    reading_judged w _ (is_sound_lem w _ l.checked c.if-not-checked.false) _ c.first_refused.ensures
     (retained_as w _ _ l.snapshots c.is_retained-there.ensures then λ _.
     schema_live_as w _ _ _ l.schemas (c.schema_is_live-live.ensures w.schema_names) then λ _.
     done)

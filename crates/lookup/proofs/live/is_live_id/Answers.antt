@@ -9,18 +9,17 @@ use Rattle.lookup.proofs.live.is_live_id.Goals as goal
 
 pub life_at-l-requires : goal.life_at-l-requires
 life_at-l-requires c =
-    let p = c.requires in
-    (record_fits _ (found_tells _ _ _ c.find_field-found.ensures c.in-At.is).0 p.0.lent, p.1)
+    (record_fits _ (found_tells _ _ _ c.find.ensures c.in-Some.is).0 c.args.ids.lent, c.requires.1)
 
-pub returns-in-At : goal.returns-in-At
+pub returns-in-Some : goal.returns-in-Some
 unfolding is_live live
-returns-in-At c =
+returns-in-Some c =
     let a = c.args in
     c.is_live.ensures ∙ (ap (λ l. live a.s.0 (with_life l)) c.life_at-l.ensures
-    ∙ sym (any_found (version_at a.size a.id_word a.life a.w.now) (λ v. v.id) _ _ (live a.s.0) c.requires.0.ascending c.find_field-found.ensures c.in-At.is))
+    ∙ sym (any_found (version_at a.ids.size a.ids.at a.life a.ids.words.now) (λ v. v.id) _ _ (live a.s.0) c.requires.0 c.find.ensures c.in-Some.is))
 
-pub returns-in-Nothing : goal.returns-in-Nothing
+pub returns-in-None : goal.returns-in-None
 unfolding is_live
-returns-in-Nothing c =
+returns-in-None c =
     let a = c.args in
-    sym (any_nowhere (version_at a.size a.id_word a.life a.w.now) (λ v. v.id) _ _ (live a.s.0) c.find_field-found.ensures c.in-Nothing.is)
+    sym (any_nowhere (version_at a.ids.size a.ids.at a.life a.ids.words.now) (λ v. v.id) _ _ (live a.s.0) c.find.ensures c.in-None.is)

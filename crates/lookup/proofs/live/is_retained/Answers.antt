@@ -17,8 +17,5 @@ unfolding field retained
 retained_place run n s =
     any_map (λ v. eqb v.id s) (snapshot_at run) (range 0 n) ∙ (sym (any_map (λ y. eqb y s) (field snapshot_size snapshot_id_word run) (range 0 n)) ∙ any_place (λ y. eqb y s) 0 (fields snapshot_size snapshot_id_word run n))
 
-pub returns-in-At : goal.returns-in-At
-returns-in-At c = sym (retained_place _ _ _ ∙ ap is_at (sym c.find_snapshot-found.ensures ∙ c.in-At.is))
-
-pub returns-in-Nothing : goal.returns-in-Nothing
-returns-in-Nothing c = sym (retained_place _ _ _ ∙ ap is_at (sym c.find_snapshot-found.ensures ∙ c.in-Nothing.is))
+pub returns : goal.returns
+returns c = c.is_some.ensures ∙ (ap is_at c.find_snapshot.ensures ∙ sym (retained_place _ _ _))

@@ -1,5 +1,4 @@
 -- `position_starts` meets its contract: the sum so far is what the delete files before i have, and each is written at its place.
-use Prim.Native.Nat.{◌-◌, ◌≤◌}
 use mathlib.Core.Path.{◌≡◌}
 use mathlib.Core.List.{map}
 use lib.ListN.{length}
@@ -11,8 +10,5 @@ use Rattle.lookup.proofs.positions.position_starts.Given as goal
 
 abbrev pub invariant-loop-i : goal.invariant-loop-i
 invariant-loop-i l =
-    (l.i ≤ l.n) × (length l.starts ≡ length l.initial.starts) × (l.sum ≡ positions_before l.delete_files l.i)
+    (length l.starts ≡ length l.initial.starts) × (l.sum ≡ positions_before l.delete_files l.i)
     × (overwrite l.initial.starts 0 (map (positions_before l.delete_files) (range 0 l.n)) ≡ filled (positions_before l.delete_files) l.n l.starts l.i)
-
-abbrev pub decreases-loop-i : goal.decreases-loop-i
-decreases-loop-i l = l.n - l.i

@@ -24,7 +24,7 @@ returns-in-202 c =
 
 pub returns-in-203 : goal.returns-in-203
 returns-in-203 c =
-    promise_read _ _ _ (named_is c.args.names.now c.args.call c.in-203.is c.bytes_of-name.ensures) (c.find_table_by_name.ensures (named_lent _ _ c.requires.checked_value))
+    promise_read _ _ _ (named_is c.args.names.now c.args.call c.in-203.is c.part_of-name.ensures) (c.find_table_by_name.ensures (named_lent _ _ c.requires.checked_value))
 
 pub returns-in-204 : goal.returns-in-204
 returns-in-204 c =

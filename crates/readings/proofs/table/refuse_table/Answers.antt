@@ -17,7 +17,7 @@ table_is_live-live-requires c = tables_by_id_lem _ _ (is_sound_lem _ _ c.require
 pub returns : goal.returns
 returns c l =
     let w = l.words in
-    reading_judged w _ (is_sound_lem w _ l.checked c.if-not-checked.false) _ c.first_refusal.ensures
+    reading_judged w _ (is_sound_lem w _ l.checked c.if-not-checked.false) _ c.first_refused.ensures
     (retained_as w _ _ l.snapshots c.is_retained-there.ensures then λ _.
     table_live_as w _ _ _ l.tables (c.table_is_live-live.ensures w.table_names) then λ _.
     done)

@@ -1,5 +1,7 @@
 -- `delete_rows` keeps the promise: refused it leaves all as it was and gives a right place, accepted its writes are the effect and its counts those of the effect.
 use mathlib.Core.Path.{refl, ap, ◌∙◌}
+use Rattle.layout.specs.Refusals.{refusal_number}
+use Rattle.layout.proofs.Refusals.{not_accepted}
 use Rattle.call_laws.specs.Writes.{add_counts}
 use Rattle.call_laws.proofs.CommitCounts.{delete_adds_lem}
 use Rattle.call_laws.proofs.CommitPromises.{commit_accepted}
@@ -13,35 +15,27 @@ use Rattle.row_deletion.proofs.delete.delete_rows.Goals as goal
 pub refused_place-place-requires : goal.refused_place-place-requires
 refused_place-place-requires c z =
     let l = c.requires in
-    lent_sought l _ _ (offence l.words _ 0 _ _ _ _ (c.refuse_delete-number.ensures l 0) z)
+    lent_sought l _ _ (offence l.words _ 0 _ _ _ _ (c.in-Err.ensures l 0) (ap refusal_number z))
 
-pub shape_of-snapshots-then-number-ne-ACCEPTED : goal.shape_of-snapshots-then-number-ne-ACCEPTED
-shape_of-snapshots-then-number-ne-ACCEPTED c = refl
-
-pub shape_of-delete_files-then-number-ne-ACCEPTED : goal.shape_of-delete_files-then-number-ne-ACCEPTED
-shape_of-delete_files-then-number-ne-ACCEPTED c = refl
-
-pub shape_of-positions-then-number-ne-ACCEPTED : goal.shape_of-positions-then-number-ne-ACCEPTED
-shape_of-positions-then-number-ne-ACCEPTED c = refl
-
-pub returns-then-number-ne-ACCEPTED : goal.returns-then-number-ne-ACCEPTED
-returns-then-number-ne-ACCEPTED c l area =
-    let n = c.refuse_delete-number.ensures l in
-    promise_refused _ _ _ _ (n _) c.if-number-ne-ACCEPTED.true (place_right l.words _ 0 _ _ _ _ (n 0) (lent_deleted l _ refl refl) c.refused_place-place.ensures) (leaves_all l) refl
+pub returns-in-Err : goal.returns-in-Err
+returns-in-Err c l area =
+    let n = c.in-Err.ensures l in
+    rw c.refused.ensures
+    (promise_refused _ _ _ _ (n _) (not_accepted _) (place_right l.words _ 0 _ _ _ _ (n 0) (lent_deleted l _ refl refl) c.refused_place-place.ensures) (leaves_all l) refl)
 
 pub write_delete-count-requires : goal.write_delete-count-requires
 write_delete-count-requires c =
     let l = c.requires in
-    lent_relies l 0 _ _ _ _ (accepted_call _ _ 0 _ (c.refuse_delete-number.ensures l 0) c.if-number-ne-ACCEPTED.false)
+    lent_relies l 0 _ _ _ _ (accepted_call _ _ 0 _ (c.in_default.ensures l 0) refl)
 
 pub counts_after-after-requires : goal.counts_after-after-requires
 counts_after-after-requires c =
     let l = c.requires in
     few_as _ (adds_as l.words _ _ c.args.new_positions.now (lent_deleted l _ refl refl) c.delete_adds-added.ensures c.write_delete-count.ensures.0)
-    (few_after _ _ 0 _ _ (delete_adds_lem _ _ _ _ _) (accepted_call _ _ 0 _ (c.refuse_delete-number.ensures l 0) c.if-number-ne-ACCEPTED.false))
+    (few_after _ _ 0 _ _ (delete_adds_lem _ _ _ _ _) (accepted_call _ _ 0 _ (c.in_default.ensures l 0) refl))
 
 pub returns : goal.returns
 returns c l area =
-    commit_accepted _ _ _ _ _ (c.refuse_delete-number.ensures l) c.if-number-ne-ACCEPTED.false (delete_adds_lem _ _ _ _ _)
+    rw c.accepted.ensures (commit_accepted _ _ _ _ _ (c.in_default.ensures l) refl (delete_adds_lem _ _ _ _ _)
     (c.counts_after-after.ensures ∙ ap (add_counts _) (adds_as l.words _ _ c.args.new_positions.now (lent_deleted l _ refl refl) c.delete_adds-added.ensures c.write_delete-count.ensures.0))
-    (λ f. c.write_delete-count.ensures.1 _ f l.snapshots l.data_files l.delete_files l.positions)
+    (λ f. c.write_delete-count.ensures.1 _ f l.snapshots l.data_files l.delete_files l.positions))

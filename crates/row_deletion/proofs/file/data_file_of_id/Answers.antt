@@ -9,11 +9,11 @@ use Rattle.row_deletion.proofs.file.data_file_of_id.Goals as goal
 
 pub data_file_at-requires : goal.data_file_at-requires
 data_file_at-requires c =
-    record_fits data_file_size (found_tells _ _ _ c.find_data_file-found.ensures c.in-At.is).0 c.requires.lent
+    record_fits data_file_size (found_tells _ _ _ c.find_data_file-found.ensures c.in-Some.is).0 c.requires.lent
 
-pub returns-in-At : goal.returns-in-At
-returns-in-At c =
-    ap data_file_of c.data_file_at.ensures ∙ data_file_is _ _ _ c.find_data_file-found.ensures c.in-At.is
+pub returns-in-Some : goal.returns-in-Some
+returns-in-Some c =
+    ap data_file_of c.data_file_at.ensures ∙ data_file_is _ _ _ c.find_data_file-found.ensures c.in-Some.is
 
-pub returns-in-Nothing : goal.returns-in-Nothing
-returns-in-Nothing c = data_file_is _ _ _ c.find_data_file-found.ensures c.in-Nothing.is
+pub returns-in-None : goal.returns-in-None
+returns-in-None c = data_file_is _ _ _ c.find_data_file-found.ensures c.in-None.is

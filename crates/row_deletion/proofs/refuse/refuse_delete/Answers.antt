@@ -57,7 +57,7 @@ returns c l m =
     let s = is_sound_lem w _ l.checked c.if-not-checked.false in
     let old = c.positions_deleted-old.ensures in
     let known = lent_deleted l _ e old in
-    commit_judged w _ l.checked s m _ _ (delete_adds_lem _ _ _ _ _) c.first_refusal.ensures
+    commit_judged w _ l.checked s m _ _ (delete_adds_lem _ _ _ _ _) c.first_refused.ensures
     (data_file_live_as w _ l.snapshots e _ l.data_files c.data_file_is_live-live.ensures then λ _.
     time_as w _ l.snapshots e _ c.is_in_time-in_time.ensures then λ _.
     c.uuid_is_free-free.ensures w l.data_files l.delete_files l.scheduled then λ _.

@@ -1,24 +1,7 @@
 -- `write_delete` meets its contract: the snapshot, the delete file and the positions that are written are those of the effect.
 use mathlib.Core.Path.{refl}
-use native.Mathlib.Omega.{arith}
-use Rattle.row_deletion.proofs.Effects.{positions_held_lem, positions_room, positions_merge, delete_stored}
+use Rattle.row_deletion.proofs.Effects.{positions_held_lem, positions_merge, delete_stored}
 use Rattle.row_deletion.proofs.write.write_delete.Goals as goal
-
-pub overflow_add-count : goal.overflow_add-count
-overflow_add-count c =
-    omega (arith, positions_room c.requires c.latest_snapshot-latest.ensures c.deleted_part-old.ensures)
-
-pub append_snapshot-begin-requires : goal.append_snapshot-begin-requires
-append_snapshot-begin-requires c =
-    c.requires.snapshots
-
-pub end_delete_file-requires : goal.end_delete_file-requires
-end_delete_file-requires c =
-    omega (arith, c.requires.deletes.within.lent)
-
-pub append_delete_file-requires : goal.append_delete_file-requires
-append_delete_file-requires c =
-    omega (arith, c.end_delete_file.auto.delete_files, c.requires.delete_files)
 
 pub merge_positions-requires : goal.merge_positions-requires
 merge_positions-requires c =

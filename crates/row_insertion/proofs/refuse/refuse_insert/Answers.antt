@@ -38,7 +38,7 @@ pub returns : goal.returns
 returns c w p q r f d x k m =
     let l = c.latest_snapshot-latest.ensures in
     let s = is_sound_lem w _ k c.if-not-checked.false in
-    commit_judged w _ k s m _ _ (insert_adds_lem _ _ _ _ _ _) c.first_refusal.ensures
+    commit_judged w _ k s m _ _ (insert_adds_lem _ _ _ _ _ _) c.first_refused.ensures
     (table_live_as w _ p l _ q (c.table_is_live-live.ensures w.table_names) then λ is_live.
     time_as w _ p l _ c.is_in_time-in_time.ensures then λ _.
     c.is_record_count-counted.ensures then λ _.

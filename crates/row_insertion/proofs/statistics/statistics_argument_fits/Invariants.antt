@@ -1,5 +1,5 @@
 -- `statistics_argument_fits` meets its contract: each turn passes the next column, and with it, where it is live, the next statistics given.
-use Prim.Native.Nat.{ℕ, ◌-◌, ◌≤◌}
+use Prim.Native.Nat.{ℕ, ◌≤◌}
 use mathlib.Core.Path.{◌≡◌}
 use mathlib.Core.List.{List}
 use Rattle.ducklake.specs.Arguments.{statistics_argument}
@@ -8,9 +8,6 @@ use Rattle.row_insertion.proofs.statistics.statistics_argument_fits.Given as goa
 
 abbrev pub invariant-loop-c : goal.invariant-loop-c
 invariant-loop-c l =
-    (l.c ≤ l.own.end) × (l.own.end ≤ l.n) × (l.x ≤ l.given)
-    × ((names : List ℕ) → judged l.columns names (statistics_argument l.data_file.0 l.words) l.rows l.s.0 l.own.end l.given l.own.start 0
-    ≡ judged l.columns names (statistics_argument l.data_file.0 l.words) l.rows l.s.0 l.own.end l.given l.c l.x)
-
-abbrev pub decreases-loop-c : goal.decreases-loop-c
-decreases-loop-c l = l.own.end - l.c
+    (l.x ≤ l.given)
+    × ((names : List ℕ) → judged l.columns names (statistics_argument l.data_file.0 l.words) l.rows l.s.0 l.c-end l.given l.initial.c 0
+    ≡ judged l.columns names (statistics_argument l.data_file.0 l.words) l.rows l.s.0 l.c-end l.given l.c l.x)

@@ -2,10 +2,6 @@
 use Rattle.row_insertion.proofs.Effects.{insert_stored}
 use Rattle.row_insertion.proofs.write.write_insert.Goals as goal
 
-pub append_statistics-requires : goal.append_statistics-requires
-append_statistics-requires c =
-    c.requires.statistics
-
 pub returns : goal.returns
 returns c w h p q r s =
     insert_stored w _ h _ _ _ _ _ p q r s c.latest_snapshot-latest.ensures c.append_snapshot-begin.ensures c.grow_table-first.ensures

@@ -20,18 +20,21 @@ find_live_delete_files-requires c =
 
 pub count_rows-length-requires : goal.count_rows-length-requires
 count_rows-length-requires c =
-    rows_located _ c.requires c.find_live_delete_files.ensures c.position_starts.ensures
+    rows_located _ c.requires c.find_live_delete_files.ensures c.located-deletes.ensures
 
 pub returns-then-area-length : goal.returns-then-area-length
-returns-then-area-length c = answered_short _ _ c.count_rows-length.ensures c.if-area-length.true
+returns-then-area-length c =
+    let e = c.located-deletes.ensures in
+    rw (← e.0, ← e.1, ← e.2) (answered_short _ _ c.count_rows-length.ensures c.if-area-length.true)
 
 pub write_rows-requires : goal.write_rows-requires
 write_rows-requires c =
     record {
-      rows_located = rows_located _ c.requires c.find_live_delete_files.ensures c.position_starts.ensures;
+      rows_located = rows_located _ c.requires c.find_live_delete_files.ensures c.located-deletes.ensures;
       table_in_bounds = omega (arith, c.count_rows-length.ensures, c.if-area-length.false);
     }
 
 pub returns : goal.returns
 returns c =
-    answered_whole _ _ c.count_rows-length.ensures c.if-area-length.false c.write_rows.ensures
+    let e = c.located-deletes.ensures in
+    rw (← e.0, ← e.1, ← e.2) (answered_whole _ _ c.count_rows-length.ensures c.if-area-length.false c.write_rows.ensures)

@@ -5,4 +5,4 @@ use Rattle.lists.proofs.Layouts.{fields_words}
 use Rattle.runs.proofs.words.words_ascend.Goals as goal
 
 pub returns : goal.returns
-returns c = c.fields_ascend.ensures ∙ ap (chained ltb) (fields_words _ _ refl)
+returns c = c.ascend.ensures ∙ ap (chained ltb) (fields_words _ _ refl)

@@ -1,12 +1,6 @@
 -- From the last delete file to the first: what has been found is the first one, for each data file, of those passed.
-use Prim.Native.Nat.{◌≤◌}
-use mathlib.Core.Path.{◌≡◌}
-use lib.ListN.{length}
 use Rattle.scans.proofs.LiveDeletes.{FoundFrom}
 use Rattle.scans.proofs.deletions.find_live_delete_files.Given as goal
 
 abbrev pub invariant-loop-j : goal.invariant-loop-j
-invariant-loop-j l = (l.j ≤ l.m) × (length l.places ≡ length l.initial.places) × FoundFrom l.data_files l.n l.delete_files l.m l.s.0 l.places l.j
-
-abbrev pub decreases-loop-j : goal.decreases-loop-j
-decreases-loop-j l = l.j
+invariant-loop-j l = FoundFrom l.data_files l.n l.delete_files l.m l.s.0 l.places l.j

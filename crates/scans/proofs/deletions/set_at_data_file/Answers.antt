@@ -6,17 +6,17 @@ use Rattle.scans.specs.Deletions.{set_at}
 use Rattle.scans.proofs.deletions.set_at_data_file.Goals as goal
 
 pub offset_bounds-numbers-k : goal.offset_bounds-numbers-k
-offset_bounds-numbers-k c = omega (arith, (found_tells _ _ _ c.find_data_file_near-found.ensures c.in-At.is).0)
+offset_bounds-numbers-k c = omega (arith, (found_tells _ _ _ c.find_data_file_near.ensures c.in-Some.is).0)
 
 pub bounds-numbers-k : goal.bounds-numbers-k
-bounds-numbers-k c = omega (arith, (found_tells _ _ _ c.find_data_file_near-found.ensures c.in-At.is).0)
+bounds-numbers-k c = omega (arith, (found_tells _ _ _ c.find_data_file_near.ensures c.in-Some.is).0)
 
-pub returns-in-At : goal.returns-in-At
-returns-in-At c =
+pub returns-in-Some : goal.returns-in-Some
+returns-in-Some c =
     let a = c.args in
-    ap (λ r. set_at r a.numbers.now a.x) (sym c.in-At.is ∙ c.find_data_file_near-found.ensures)
+    ap (λ r. set_at r a.numbers.now a.x) (sym c.in-Some.is ∙ c.find_data_file_near.ensures)
 
-pub returns-in-Nothing : goal.returns-in-Nothing
-returns-in-Nothing c =
+pub returns-in_default : goal.returns-in_default
+returns-in_default c =
     let a = c.args in
-    ap (λ r. set_at r a.numbers.now a.x) (sym c.in-Nothing.is ∙ c.find_data_file_near-found.ensures)
+    ap (λ r. set_at r a.numbers.now a.x) (sym c.in_default.is ∙ c.find_data_file_near.ensures)

@@ -11,4 +11,4 @@ pub returns : goal.returns
 unfolding field live
 returns c =
     let a = c.args in
-    ap₂ (λ t b. eqb t.0 a.table.0 && b) c.data_file_table-holder.ensures (c.is_live-live.ensures ∙ ap (λ l. live a.s.0 (with_life l)) c.life_at-l.ensures)
+    ap₂ ◌&&◌ (c.eq.ensures ∙ ap (λ t. eqb t.0 a.table.0) c.data_file_table-holder.ensures) (c.is_live-live.ensures ∙ ap (λ l. live a.s.0 (with_life l)) c.life_at-l.ensures)

@@ -27,7 +27,7 @@ pub list_files-requires : goal.list_files-requires
 list_files-requires c =
     let p = c.requires in
     record {
-      files_selectable = (record { lent = p.by_id.lent; by_file = p.by_file }, c.find_live_delete_files.ensures, p.lent, c.fill_filter_hints-scale.ensures);
+      files_selectable = (record { lent = p.by_id.lent; by_file = p.by_file }, c.find_live_delete_files.ensures, p.lent);
       table_in_bounds = omega (arith, c.if-area-length.false, c.count_files-k.ensures.1);
     }
 

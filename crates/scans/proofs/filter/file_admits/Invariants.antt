@@ -1,5 +1,4 @@
 -- The statistics of a data file stand together: the record for the column is among them or nowhere.
-use Prim.Native.Nat.{◌≤◌, ◌-◌}
 use mathlib.Core.Path.{◌≡◌}
 use Rattle.lists.specs.Lists.{any}
 use Rattle.lists.specs.Runs.{from}
@@ -9,7 +8,4 @@ use Rattle.scans.proofs.filter.file_admits.Given as goal
 
 abbrev pub invariant-loop-i : goal.invariant-loop-i
 invariant-loop-i l =
-    (l.i ≤ l.end) × (any (admitted l.column l.scalar) (from (statistics_at l.statistics) l.initial.i l.end) ≡ any (admitted l.column l.scalar) (from (statistics_at l.statistics) l.i l.end))
-
-abbrev pub decreases-loop-i : goal.decreases-loop-i
-decreases-loop-i l = l.end - l.i
+    any (admitted l.column l.scalar) (from (statistics_at l.statistics) l.initial.i l.i-end) ≡ any (admitted l.column l.scalar) (from (statistics_at l.statistics) l.i l.i-end)

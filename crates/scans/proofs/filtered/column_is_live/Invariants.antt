@@ -1,5 +1,5 @@
 -- The columns of a table stand together: one of that id that is live is among them or nowhere.
-use Prim.Native.Nat.{ℕ, ◌≤◌, ◌-◌}
+use Prim.Native.Nat.{ℕ}
 use mathlib.Core.Path.{◌≡◌}
 use mathlib.Core.List.{List}
 use Rattle.lists.specs.Lists.{any}
@@ -10,7 +10,4 @@ use Rattle.scans.proofs.filtered.column_is_live.Given as goal
 
 abbrev pub invariant-loop-i : goal.invariant-loop-i
 invariant-loop-i l =
-    (l.i ≤ l.end) × ((names : List ℕ) → any (is_column l.column l.s.0) (from (column_at l.columns names) l.initial.i l.end) ≡ any (is_column l.column l.s.0) (from (column_at l.columns names) l.i l.end))
-
-abbrev pub decreases-loop-i : goal.decreases-loop-i
-decreases-loop-i l = l.end - l.i
+    (names : List ℕ) → any (is_column l.column l.s.0) (from (column_at l.columns names) l.initial.i l.i-end) ≡ any (is_column l.column l.s.0) (from (column_at l.columns names) l.i l.i-end)

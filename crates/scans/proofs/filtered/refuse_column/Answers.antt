@@ -21,7 +21,7 @@ column_is_live-known-requires c = columns_by_table_lem _ _ (is_sound_lem _ _ c.r
 pub returns : goal.returns
 returns c l scalar =
     let w = l.words in
-    reading_judged w _ (is_sound_lem w _ l.checked c.if-not-checked.false) _ c.first_refusal.ensures
+    reading_judged w _ (is_sound_lem w _ l.checked c.if-not-checked.false) _ c.first_refused.ensures
     (retained_as w _ _ l.snapshots c.is_retained-there.ensures then λ _.
     table_live_as w _ _ _ l.tables (c.table_is_live-live.ensures w.table_names) then λ _.
     column_live_as w _ _ _ _ l.columns (c.column_is_live-known.ensures w.column_names) then λ _.

@@ -31,7 +31,7 @@ pub returns : goal.returns
 returns c w p q r k m =
     let l = c.latest_snapshot-latest.ensures in
     let s = is_sound_lem w _ k c.if-not-checked.false in
-    commit_judged w _ k s m _ _ (create_schema_adds _ _ _) c.first_refusal.ensures
+    commit_judged w _ k s m _ _ (create_schema_adds _ _ _) c.first_refused.ensures
     (time_as w _ p l _ c.is_in_time-in_time.ensures then λ _.
     c.is_name_argument-named.ensures then λ _.
     schema_name_as w _ p l _ q r c.schema_name_is_free-free.ensures then λ _.

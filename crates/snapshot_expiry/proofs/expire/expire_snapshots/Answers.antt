@@ -1,57 +1,37 @@
 -- `expire_snapshots` keeps the promise: refused it leaves all as it was; accepted, what stays is live at one of the ids that remain, so each run is that
 -- of the effect.
 use borrow.Author.Rules.{rules}
-use mathlib.Core.Path.{◌≡◌, refl}
-use Rattle.layout.specs.declared.outcome.Counts.{Counts}
-use Rattle.layout.specs.Words.{Words}
-use Rattle.refusals.specs.declared.checked.Checked.{Checked}
-use Rattle.refusals.specs.Checked.{checked_of}
+use mathlib.Core.Path.{refl}
+use Rattle.layout.proofs.Refusals.{not_accepted}
 use Rattle.refusals.proofs.Laws.{checked_ready}
 use Rattle.expiry.proofs.Expirable.{expiry_checked}
-use Rattle.snapshot_expiry.proofs.Effects.{NotRefused, list_expirable, definitions_lent, files_lent, expiry_written}
+use Rattle.snapshot_expiry.proofs.Effects.{list_expirable, definitions_lent, files_lent, expiry_written}
 use Rattle.snapshot_expiry.proofs.Promised.{not_refused, expiry_refused, expiry_accepted}
 use Rattle.snapshot_expiry.proofs.expire.expire_snapshots.Goals as goal
 
--- the tables that were checked
-abbrev tables : (w : Words) (c : Counts) {checked : Checked} → checked ≡ checked_of w c → Words
-tables w c e = w
-
-pub refuse_expiry-number-requires : goal.refuse_expiry-number-requires
-refuse_expiry-number-requires c h =
+pub refuse_expiry-requires : goal.refuse_expiry-requires
+refuse_expiry-requires c h =
     expiry_checked (checked_ready _ _ c.requires h)
 
-pub shape_of-snapshots-then-number-ne-ACCEPTED : goal.shape_of-snapshots-then-number-ne-ACCEPTED
-shape_of-snapshots-then-number-ne-ACCEPTED c = refl
+pub returns-in-Err : goal.returns-in-Err
+returns-in-Err c area =
+    rw c.refused.ensures (expiry_refused _ _ _ _ c.requires c.in-Err.ensures area (not_accepted _))
 
-pub shape_of-data_files-then-number-ne-ACCEPTED : goal.shape_of-data_files-then-number-ne-ACCEPTED
-shape_of-data_files-then-number-ne-ACCEPTED c = refl
-
-pub shape_of-delete_files-then-number-ne-ACCEPTED : goal.shape_of-delete_files-then-number-ne-ACCEPTED
-shape_of-delete_files-then-number-ne-ACCEPTED c = refl
-
-pub returns-then-number-ne-ACCEPTED : goal.returns-then-number-ne-ACCEPTED
-returns-then-number-ne-ACCEPTED c area =
-    expiry_refused _ _ _ _ c.requires c.refuse_expiry-number.ensures area c.if-number-ne-ACCEPTED.true
-
-pub remaining_ids-m-requires : goal.remaining_ids-m-requires
-remaining_ids-m-requires c =
-    let passed : NotRefused (tables _ _ c.requires) c.args.counts c.args.ids.now c.args.time = not_refused _ _ _ _ c.requires c.refuse_expiry-number.ensures c.if-number-ne-ACCEPTED.false in
-    (list_expirable _ _ _ _ passed, search rules)
+pub unlisted-left-requires : goal.unlisted-left-requires
+unlisted-left-requires c =
+    (list_expirable _ _ _ _ (not_refused _ _ _ c.args.time c.requires c.in_default.ensures refl), search rules)
 
 pub expire_listed-n-requires : goal.expire_listed-n-requires
 expire_listed-n-requires c =
-    let passed : NotRefused (tables _ _ c.requires) c.args.counts c.args.ids.now c.args.time = not_refused _ _ _ _ c.requires c.refuse_expiry-number.ensures c.if-number-ne-ACCEPTED.false in
-    list_expirable _ _ _ _ passed
+    list_expirable _ _ _ _ (not_refused _ _ _ c.args.time c.requires c.in_default.ensures refl)
 
 pub expire_definitions-d-requires : goal.expire_definitions-d-requires
 expire_definitions-d-requires c =
-    let passed : NotRefused (tables _ _ c.requires) c.args.counts c.args.ids.now c.args.time = not_refused _ _ _ _ c.requires c.refuse_expiry-number.ensures c.if-number-ne-ACCEPTED.false in
-    definitions_lent _ _ _ _ passed c.remaining_ids-m.ensures
+    definitions_lent _ _ _ _ (not_refused _ _ _ c.args.time c.requires c.in_default.ensures refl)
 
 pub expire_files-f-requires : goal.expire_files-f-requires
 expire_files-f-requires c =
-    let passed : NotRefused (tables _ _ c.requires) c.args.counts c.args.ids.now c.args.time = not_refused _ _ _ _ c.requires c.refuse_expiry-number.ensures c.if-number-ne-ACCEPTED.false in
-    files_lent _ _ _ _ passed c.remaining_ids-m.ensures
+    files_lent _ _ _ _ (not_refused _ _ _ c.args.time c.requires c.in_default.ensures refl) c.unlisted-left.ensures
 
 pub shape_of-snapshots : goal.shape_of-snapshots
 shape_of-snapshots c = c.expire_listed-n.auto.snapshots
@@ -91,6 +71,5 @@ shape_of-scheduled c = c.expire_files-f.auto.scheduled
 
 pub returns : goal.returns
 returns c area =
-    let passed : NotRefused (tables _ _ c.requires) c.args.counts c.args.ids.now c.args.time = not_refused _ _ _ _ c.requires c.refuse_expiry-number.ensures c.if-number-ne-ACCEPTED.false in
-    expiry_accepted _ _ _ _ c.requires c.refuse_expiry-number.ensures area c.if-number-ne-ACCEPTED.false
-    (expiry_written _ _ _ _ passed c.remaining_ids-m.ensures _ c.expire_listed-n.ensures c.expire_definitions-d.ensures c.expire_files-f.ensures)
+    rw c.accepted.ensures (expiry_accepted _ _ _ _ c.requires c.in_default.ensures area refl
+    (expiry_written _ _ _ _ (not_refused _ _ _ c.args.time c.requires c.in_default.ensures refl) c.unlisted-left.ensures _ c.expire_listed-n.ensures c.expire_definitions-d.ensures c.expire_files-f.ensures))

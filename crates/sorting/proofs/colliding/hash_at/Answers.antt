@@ -1,11 +1,8 @@
 -- `hash_at` meets its contract: the digest goes on word by word.
-use Rattle.std.proofs.Common.{sym, refl, ap, ◌∙◌}
+use Rattle.std.proofs.Common.{sym, ap, ◌∙◌}
 use Rattle.sorting.specs.Colliding.{hashed}
 use Rattle.sorting.proofs.Collisions.{digest_next, digest_end}
 use Rattle.sorting.proofs.colliding.hash_at.Goals as goal
-
-pub loop-k-init : goal.loop-k-init
-loop-k-init c = refl
 
 pub loop-k-preserved : goal.loop-k-preserved
 loop-k-preserved c =
@@ -15,5 +12,5 @@ loop-k-preserved c =
 pub returns : goal.returns
 returns c =
     let l = c.loop-k in
-    let second = c.args.second in
-    c.hash.ensures.0 ∙ ap (hashed second) (sym (l.invariant ∙ digest_end _ _ _ _ _ c.loop-k-test.false))
+    let round = c.args.round in
+    c.hash.ensures.0 ∙ ap (hashed round) (sym (l.invariant ∙ digest_end _ _ _ _ _ c.loop-k-test.false))

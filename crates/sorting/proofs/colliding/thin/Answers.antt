@@ -8,7 +8,7 @@ pub keep_colliding-requires : goal.keep_colliding-requires
 keep_colliding-requires c =
     let a = c.args in
     let e = c.hash_places.ensures in
-    (ap length e ∙ length-map a.w.now _, hashes_under a.second a.used a.size a.keys.now a.w.now e)
+    (ap length e ∙ length-map a.w.now _, hashes_under a.round a.used a.keys.size a.keys.words.now a.w.now e)
 
 pub returns : goal.returns
 returns c =

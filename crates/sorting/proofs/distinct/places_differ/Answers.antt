@@ -1,23 +1,11 @@
--- `places_differ` meets its contract: whether any two are equal is decided by the places left.
-use Rattle.std.proofs.Common.{sym, ◌∙◌, arith, length-take, length-take-le}
-use Rattle.sorting.proofs.Collisions.{thinned_keyed, distinct_thinned}
+-- `places_differ` meets its contract: in order, equal keys follow each other.
+use Rattle.std.proofs.Common.{rules, arith}
+use Rattle.sorting.proofs.KeyOrder.{keyed_in}
+use Rattle.sorting.proofs.Deciding.{keys_decided}
 use Rattle.sorting.proofs.distinct.places_differ.Goals as goal
 
-pub slice_bounds-sorted_differ-end-2 : goal.slice_bounds-sorted_differ-end-2
-slice_bounds-sorted_differ-end-2 c =
-    let t = c.thin-r in
-    sym (length-take-le _ t.new.w (omega (arith, t.ensures.0, t.ensures.1)))
-
-pub slice_bounds-sorted_differ-end-4 : goal.slice_bounds-sorted_differ-end-4
-slice_bounds-sorted_differ-end-4 c =
-    let t = c.thin-r in
-    sym (length-take-le _ t.new.v (omega (arith, c.requires.1, t.auto.v, t.ensures.1)))
-
-pub sorted_differ-requires : goal.sorted_differ-requires
-sorted_differ-requires c =
-    let t = c.thin-r in
-    (thinned_keyed _ _ _ t.ensures.2 c.requires.0, simp length-take (omega (arith, c.requires.1, t.auto.v, t.ensures.0)))
+pub places_apart-requires : goal.places_apart-requires
+places_apart-requires c = (c.requires, omega arith, λ i j a b. search (keyed_in _ _ c.requires.keyed a, keyed_in _ _ c.requires.keyed b, arith, rules))
 
 pub returns : goal.returns
-returns c =
-    c.sorted_differ.ensures ∙ distinct_thinned _ _ c.thin-r.ensures.2
+returns c = c.places_apart.ensures _ (λ i j r a b e. search (e, rules)) (keys_decided c.args.keys c.args.w.now)

@@ -19,20 +19,13 @@ past : (run : List ℕ) (i n : ℕ) {sum count total : ℕ} → sum ≡ position
 past run i n e f h l m = ne_eqb _ _ (λ (q : positions_before run n ≡ _). omega (arith, positions_next run i, positions_grow run (i + 1) n (omega arith)))
 
 pub loop-i-init : goal.loop-i-init
-loop-i-init c = (omega arith, sym (positions_first _), omega arith)
+loop-i-init c = (sym (positions_first _), omega arith)
 
 pub returns-then-total-sum : goal.returns-then-total-sum
 returns-then-total-sum c =
     let s = c.loop-i in
-    sym (past _ s.i _ s.invariant.1 c.delete_file_delete_count-count.ensures c.loop-i-test.true c.if-total-sum.true s.invariant.2)
+    sym (past _ s.i _ s.invariant.0 c.delete_file_delete_count-count.ensures c.loop-i-test.true c.if-total-sum.true s.invariant.1)
 
 pub loop-i-preserved : goal.loop-i-preserved
 loop-i-preserved c =
-    (omega arith, ap₂ ◌+◌ c.loop-i.invariant.1 c.delete_file_delete_count-count.ensures ∙ sym (positions_next c.args.delete_files.now c.loop-i.i), omega (arith, c.if-total-sum.false))
-
-pub returns : goal.returns
-returns c =
-    let s = c.loop-i in
-    let a = c.args in
-    let e : s.i ≡ a.n = omega (arith, c.loop-i-test.false, s.invariant.0) in
-    ap (λ (x : ℕ). eqb x a.total) (s.invariant.1 ∙ ap (positions_before a.delete_files.now) e)
+    (ap₂ ◌+◌ c.loop-i.invariant.0 c.delete_file_delete_count-count.ensures ∙ sym (positions_next c.args.delete_files.now c.loop-i.i), omega (arith, c.if-total-sum.false))

@@ -11,13 +11,13 @@ returns-then-own-eq0 c = sym (unsound_empty _ _ c.if-own-eq0.true)
 
 pub data_file_record_count-rows-requires : goal.data_file_record_count-rows-requires
 data_file_record_count-rows-requires c =
-    record_fits data_file_size (found_tells _ _ _ c.find_data_file_near-found.ensures c.in-At.is).0 c.requires.lent
+    record_fits data_file_size (found_tells _ _ _ c.find_data_file_near-found.ensures c.in-Some.is).0 c.requires.lent
 
-pub returns-in-At : goal.returns-in-At
-returns-in-At c =
-    sound_found _ _ c.args.d _ c.find_data_file_near-found.ensures c.requires c.in-At.is c.data_file_record_count-rows.ensures c.if-own-eq0.false
+pub returns-in-Some : goal.returns-in-Some
+returns-in-Some c =
+    sound_found _ _ c.args.d _ c.find_data_file_near-found.ensures c.requires c.in-Some.is c.data_file_record_count-rows.ensures c.if-own-eq0.false
     c.words_ascend-ascending.ensures
 
-pub returns-in-Nothing : goal.returns-in-Nothing
-returns-in-Nothing c =
-    sym (unsound_lost _ _ c.args.d _ c.find_data_file_near-found.ensures c.in-Nothing.is)
+pub returns-in-None : goal.returns-in-None
+returns-in-None c =
+    sym (unsound_lost _ _ c.args.d _ c.find_data_file_near-found.ensures c.in-None.is)

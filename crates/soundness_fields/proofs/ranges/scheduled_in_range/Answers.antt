@@ -9,4 +9,4 @@ use Rattle.soundness_fields.proofs.ranges.scheduled_in_range.Goals as goal
 
 pub returns : goal.returns
 unfolding field scheduled_in_range
-returns c = c.fields_between.ensures ∙ all_maps _ _ _ _ (range 0 _) (λ i. rw leb-zero)
+returns c = c.between.ensures ∙ all_maps _ _ _ _ (range 0 _) (λ i. rw leb-zero)

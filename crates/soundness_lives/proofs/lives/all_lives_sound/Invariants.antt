@@ -1,5 +1,4 @@
 -- `all_lives_sound` meets its contract: the loop tests each life, and an open one is live at the latest snapshot.
-use Prim.Native.Nat.{◌-◌, ◌≤◌}
 use mathlib.Core.Path.{◌≡◌}
 use Rattle.lists.specs.Lists.{all}
 use Rattle.lists.specs.Runs.{from}
@@ -11,7 +10,4 @@ use Rattle.soundness_lives.proofs.lives.all_lives_sound.Given as goal
 
 abbrev pub invariant-loop-i : goal.invariant-loop-i
 invariant-loop-i l =
-    (l.i ≤ l.k) × (all (life_sound (snapshots_in l.snapshots l.n)) (lives_in l.size l.at l.w l.k) ≡ all (life_sound (snapshots_in l.snapshots l.n)) (from (λ j. with_life (life_at l.size l.at l.w j)) l.i l.k))
-
-abbrev pub decreases-loop-i : goal.decreases-loop-i
-decreases-loop-i l = l.k - l.i
+    all (life_sound (snapshots_in l.snapshots l.n)) (lives_in l.lives.size l.lives.at l.lives.words.now l.lives.n) ≡ all (life_sound (snapshots_in l.snapshots l.n)) (from (λ j. with_life (life_at l.lives.size l.lives.at l.lives.words.now j)) l.i l.lives.n)

@@ -13,18 +13,18 @@ use Rattle.soundness_lives.proofs.nesting.column_nests.Goals as goal
 pub life_at-outer-requires : goal.life_at-outer-requires
 life_at-outer-requires c =
     let p = c.requires in
-    (record_fits table_size (found_tells _ _ _ c.find_table_near-found.ensures c.in-At.is).0 p.0.lent, search rules)
+    (record_fits table_size (found_tells _ _ _ c.find_table_near-found.ensures c.in-Some.is).0 p.0.lent, search rules)
 
-pub returns-in-At : goal.returns-in-At
+pub returns-in-Some : goal.returns-in-Some
 unfolding same_life
-returns-in-At c t cs =
+returns-in-Some c t cs =
     let l = c.life_at-l.result in
     column_held _ t _ cs _ _ c.column_table-table.ensures c.life_at-l.ensures
-    (c.same_life.ensures ∙ (ap (λ o. same_life (with_life o) (with_life l)) c.life_at-outer.ensures
-    ∙ sym (any_found (version_at table_size table_id_word table_begin_word c.args.tables.now) (λ v. v.id) _ _ (λ v. same_life v (with_life l)) c.requires.0.ascending c.find_table_near-found.ensures c.in-At.is)))
+    (c.eq.ensures ∙ (ap (λ o. same_life (with_life o) (with_life l)) c.life_at-outer.ensures
+    ∙ sym (any_found (version_at table_size table_id_word table_begin_word c.args.tables.now) (λ v. v.id) _ _ (λ v. same_life v (with_life l)) c.requires.0.ascending c.find_table_near-found.ensures c.in-Some.is)))
 
-pub returns-in-Nothing : goal.returns-in-Nothing
-returns-in-Nothing c t cs =
+pub returns-in-None : goal.returns-in-None
+returns-in-None c t cs =
     let l = c.life_at-l.result in
     column_held _ t _ cs _ _ c.column_table-table.ensures c.life_at-l.ensures
-    (sym (any_nowhere (version_at table_size table_id_word table_begin_word c.args.tables.now) (λ v. v.id) _ _ (λ v. same_life v (with_life l)) c.find_table_near-found.ensures c.in-Nothing.is))
+    (sym (any_nowhere (version_at table_size table_id_word table_begin_word c.args.tables.now) (λ v. v.id) _ _ (λ v. same_life v (with_life l)) c.find_table_near-found.ensures c.in-None.is))

@@ -1,19 +1,12 @@
--- `columns_nest` meets its contract: the loop tests each column.
-use mathlib.Core.Path.{sym, ◌∙◌}
-use native.Mathlib.Omega.{arith}
-use Rattle.lists.proofs.Loops.{all_start, all_passed, all_failed, all_end}
+-- `columns_nest` meets its contract: the chain tests each column.
+use Rattle.std.proofs.Common.{rules}
+use Rattle.lists.proofs.Chains.{all_chain, all_below}
+use Rattle.layout.specs.Words.{tables_in, column_at}
+use Rattle.ducklake.specs.Soundness.{column_nests}
 use Rattle.soundness_lives.proofs.nesting.columns_nest.Goals as goal
 
-pub loop-i-init : goal.loop-i-init
-loop-i-init c = (omega arith, λ t cs. all_start _ _ _)
-
-pub returns-then-not-ok : goal.returns-then-not-ok
-returns-then-not-ok c t cs =
-    sym (c.loop-i.invariant.1 t cs ∙ all_failed _ _ _ _ c.loop-i-test.true (c.column_nests-ok.ensures t cs) c.if-not-ok.true-raw)
-
-pub loop-i-preserved : goal.loop-i-preserved
-loop-i-preserved c =
-    (omega arith, λ t cs. c.loop-i.invariant.1 t cs ∙ all_passed _ _ _ _ c.loop-i-test.true (c.column_nests-ok.ensures t cs) c.if-not-ok.false-raw)
-
 pub returns : goal.returns
-returns c t cs = sym (c.loop-i.invariant.1 t cs ∙ all_end _ _ _ _ c.loop-i-test.false)
+returns c t cs =
+    let a = c.args in
+    all_below _ _ _
+    (all_chain (column_nests (tables_in a.tables.now t a.n)) (column_at a.columns.now cs) 0 a.m c.all.ensures.ran (λ i q k. search rules) (λ i q k. search rules))

@@ -1,24 +1,13 @@
--- `data_files_nest` meets its contract: the loop tests each data file with the table of its table id.
-use mathlib.Core.Path.{sym, ◌∙◌}
-use native.Mathlib.Omega.{arith}
-use Rattle.lists.proofs.Loops.{all_start, all_passed, all_failed, all_end}
-use Rattle.soundness_lives.proofs.Held.{data_file_held}
+-- `data_files_nest` meets its contract: the chain tests each data file.
+use Rattle.std.proofs.Common.{rules}
+use Rattle.lists.proofs.Chains.{all_chain, all_below}
+use Rattle.layout.specs.Words.{tables_in, data_file_at}
+use Rattle.ducklake.specs.Soundness.{data_file_nests}
 use Rattle.soundness_lives.proofs.nesting.data_files_nest.Goals as goal
 
-pub loop-i-init : goal.loop-i-init
-loop-i-init c = (omega arith, λ t. all_start _ _ _)
-
-pub returns-then-not-ok : goal.returns-then-not-ok
-returns-then-not-ok c t =
-    sym (c.loop-i.invariant.1 t
-    ∙ all_failed _ _ _ _ c.loop-i-test.true (data_file_held _ t _ _ _ c.data_file_table-table.ensures c.life_at-l.ensures c.is_held-ok.ensures) c.if-not-ok.true-raw)
-
-pub loop-i-preserved : goal.loop-i-preserved
-loop-i-preserved c = (
-  omega arith,
-  λ t. c.loop-i.invariant.1 t
-      ∙ all_passed _ _ _ _ c.loop-i-test.true (data_file_held _ t _ _ _ c.data_file_table-table.ensures c.life_at-l.ensures c.is_held-ok.ensures) c.if-not-ok.false-raw,
-)
-
 pub returns : goal.returns
-returns c t = sym (c.loop-i.invariant.1 t ∙ all_end _ _ _ _ c.loop-i-test.false)
+returns c t =
+    let a = c.args in
+    all_below _ _ _
+    (all_chain (data_file_nests (tables_in a.tables.now t a.n)) (data_file_at a.data_files.now) 0 a.m c.all.ensures.ran
+    (λ i q k. search rules) (λ i q k. search rules))

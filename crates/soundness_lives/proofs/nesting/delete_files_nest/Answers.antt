@@ -1,19 +1,13 @@
--- `delete_files_nest` meets its contract: the loop tests each delete file.
-use mathlib.Core.Path.{sym, ◌∙◌}
-use native.Mathlib.Omega.{arith}
-use Rattle.lists.proofs.Loops.{all_start, all_passed, all_failed, all_end}
+-- `delete_files_nest` meets its contract: the chain tests each delete file.
+use Rattle.std.proofs.Common.{rules}
+use Rattle.lists.proofs.Chains.{all_chain, all_below}
+use Rattle.layout.specs.Words.{data_files_in, delete_file_at}
+use Rattle.ducklake.specs.Soundness.{delete_file_nests}
 use Rattle.soundness_lives.proofs.nesting.delete_files_nest.Goals as goal
 
-pub loop-i-init : goal.loop-i-init
-loop-i-init c = (omega arith, λ p. all_start _ _ _)
-
-pub returns-then-not-ok : goal.returns-then-not-ok
-returns-then-not-ok c p =
-    sym (c.loop-i.invariant.1 p ∙ all_failed _ _ _ _ c.loop-i-test.true (c.delete_file_nests-ok.ensures p) c.if-not-ok.true-raw)
-
-pub loop-i-preserved : goal.loop-i-preserved
-loop-i-preserved c =
-    (omega arith, λ p. c.loop-i.invariant.1 p ∙ all_passed _ _ _ _ c.loop-i-test.true (c.delete_file_nests-ok.ensures p) c.if-not-ok.false-raw)
-
 pub returns : goal.returns
-returns c p = sym (c.loop-i.invariant.1 p ∙ all_end _ _ _ _ c.loop-i-test.false)
+returns c p =
+    let a = c.args in
+    all_below _ _ _
+    (all_chain (delete_file_nests (data_files_in a.data_files.now a.n)) (delete_file_at a.delete_files.now p) 0 a.m c.all.ensures.ran
+    (λ i q k. search rules) (λ i q k. search rules))

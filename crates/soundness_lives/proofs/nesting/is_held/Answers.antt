@@ -9,17 +9,16 @@ use Rattle.soundness_lives.proofs.nesting.is_held.Goals as goal
 
 pub life_at-outer-requires : goal.life_at-outer-requires
 life_at-outer-requires c =
-    let p = c.requires in
-    (record_fits _ (found_tells _ _ _ c.find_near-found.ensures c.in-At.is).0 p.0.lent, p.1)
+    (record_fits _ (found_tells _ _ _ c.find_near-found.ensures c.in-Some.is).0 c.args.ids.lent, c.requires.1)
 
-pub returns-in-At : goal.returns-in-At
+pub returns-in-Some : goal.returns-in-Some
 unfolding contains
-returns-in-At c =
+returns-in-Some c =
     let a = c.args in
     c.life_contains.ensures ∙ (ap (λ o. contains (with_life o) (with_life a.l)) c.life_at-outer.ensures
-    ∙ sym (any_found (version_at a.size a.id_word a.life a.w.now) (λ v. v.id) _ _ (λ v. contains v (with_life a.l)) c.requires.0.ascending c.find_near-found.ensures c.in-At.is))
+    ∙ sym (any_found (version_at a.ids.size a.ids.at a.life a.ids.words.now) (λ v. v.id) _ _ (λ v. contains v (with_life a.l)) c.requires.0 c.find_near-found.ensures c.in-Some.is))
 
-pub returns-in-Nothing : goal.returns-in-Nothing
-returns-in-Nothing c =
+pub returns-in-None : goal.returns-in-None
+returns-in-None c =
     let a = c.args in
-    sym (any_nowhere (version_at a.size a.id_word a.life a.w.now) (λ v. v.id) _ _ (λ v. contains v (with_life a.l)) c.find_near-found.ensures c.in-Nothing.is)
+    sym (any_nowhere (version_at a.ids.size a.ids.at a.life a.ids.words.now) (λ v. v.id) _ _ (λ v. contains v (with_life a.l)) c.find_near-found.ensures c.in-None.is)

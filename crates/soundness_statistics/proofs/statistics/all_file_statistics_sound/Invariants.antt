@@ -1,5 +1,5 @@
 -- `all_file_statistics_sound` meets its contract: the loop reads and judges one data file after the other.
-use Rattle.std.proofs.Common.{◌≡◌, ℕ, ◌-◌, ◌≤◌, List}
+use Rattle.std.proofs.Common.{◌≡◌, ℕ, List}
 use Rattle.lists.specs.Lists.{all}
 use Rattle.lists.specs.Runs.{from}
 use Rattle.layout.specs.Words.{columns_in, statistics_in, data_file_at, data_files_in}
@@ -8,9 +8,6 @@ use Rattle.soundness_statistics.proofs.statistics.all_file_statistics_sound.Give
 
 abbrev pub invariant-loop-i : goal.invariant-loop-i
 invariant-loop-i l =
-    (l.i ≤ l.counts.data_files) × ((names : List ℕ)
-    → all (file_statistics_sound (columns_in l.columns names l.counts.columns) (statistics_in l.statistics l.counts.statistics)) (data_files_in l.data_files l.counts.data_files)
-    ≡ all (file_statistics_sound (columns_in l.columns names l.counts.columns) (statistics_in l.statistics l.counts.statistics)) (from (data_file_at l.data_files) l.i l.counts.data_files))
-
-abbrev pub decreases-loop-i : goal.decreases-loop-i
-decreases-loop-i l = l.counts.data_files - l.i
+    (names : List ℕ)
+    → all (file_statistics_sound (columns_in l.columns names l.fn.counts.columns) (statistics_in l.statistics l.fn.counts.statistics)) (data_files_in l.data_files l.fn.counts.data_files)
+    ≡ all (file_statistics_sound (columns_in l.columns names l.fn.counts.columns) (statistics_in l.statistics l.fn.counts.statistics)) (from (data_file_at l.data_files) l.i l.fn.counts.data_files)

@@ -5,4 +5,4 @@ use Rattle.soundness_unique.proofs.naming.column_names_apart.Goals as goal
 
 pub returns-then-alone : goal.returns-then-alone
 returns-then-alone c =
-    sym (tables_ascend _ _ _ (sym c.fields_ascend-alone.ensures ∙ c.if-alone.true))
+    sym (tables_ascend _ _ _ (sym c.ascend-alone.ensures ∙ c.if-alone.true))

@@ -5,4 +5,4 @@ use Rattle.soundness_unique.proofs.naming.orders_apart.Goals as goal
 
 pub returns-then-ascend : goal.returns-then-ascend
 returns-then-ascend c =
-    sym (orders_ascend _ _ (sym c.pairs_ascend-ascend.ensures ∙ c.if-ascend.true))
+    sym (orders_ascend _ _ (sym c.ascend_then-ascend.ensures ∙ c.if-ascend.true))

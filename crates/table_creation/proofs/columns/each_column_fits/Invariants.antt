@@ -1,5 +1,5 @@
 -- `each_column_fits` meets its contract: the loop goes on while the columns are well formed.
-use Prim.Native.Nat.{ℕ, ◌-◌, ◌≤◌}
+use Prim.Native.Nat.{ℕ}
 use mathlib.Core.Path.{◌≡◌}
 use mathlib.Core.List.{map}
 use Rattle.lists.specs.Lists.{range, all}
@@ -9,7 +9,4 @@ use Rattle.table_creation.proofs.columns.each_column_fits.Given as goal
 
 abbrev pub invariant-loop-i : goal.invariant-loop-i
 invariant-loop-i l =
-    (l.i ≤ l.n) × ((table : ℕ) → all column_fits (map (column_argument table l.columns l.names) (range 0 l.n)) ≡ all column_fits (from (column_argument table l.columns l.names) l.i l.n))
-
-abbrev pub decreases-loop-i : goal.decreases-loop-i
-decreases-loop-i l = l.n - l.i
+    ((table : ℕ) → all column_fits (map (column_argument table l.columns l.names) (range 0 l.n)) ≡ all column_fits (from (column_argument table l.columns l.names) l.i l.n))

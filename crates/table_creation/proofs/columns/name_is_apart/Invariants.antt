@@ -1,5 +1,5 @@
 -- `name_is_apart` meets its contract: the loop goes on while no later name clashes.
-use Prim.Native.Nat.{ℕ, ◌+◌, ◌-◌, ◌≤◌}
+use Prim.Native.Nat.{ℕ, ◌+◌}
 use mathlib.Core.Path.{◌≡◌}
 use mathlib.Core.Bool.{Bool, not}
 use mathlib.Core.List.{List}
@@ -14,7 +14,4 @@ abbrev pub apart : List ℕ → ℕ → ℕ → List ℕ → ℕ → ℕ → Boo
 apart names i table words j n = all (λ c. not (clashes (name_at names i) c.name)) (from (column_argument table words names) j n)
 
 abbrev pub invariant-loop-j : goal.invariant-loop-j
-invariant-loop-j l = (l.j ≤ l.n) × ((table : ℕ) (words : List ℕ) → apart l.names l.i table words (l.i + 1) l.n ≡ apart l.names l.i table words l.j l.n)
-
-abbrev pub decreases-loop-j : goal.decreases-loop-j
-decreases-loop-j l = l.n - l.j
+invariant-loop-j l = ((table : ℕ) (words : List ℕ) → apart l.names l.i table words (l.i + 1) l.n ≡ apart l.names l.i table words l.j l.n)

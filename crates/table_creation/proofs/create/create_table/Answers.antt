@@ -1,5 +1,6 @@
 -- `create_table` keeps the promise: refused it leaves all as it was, accepted its writes are the effect and its counts those of the effect.
 use mathlib.Core.Path.{refl, ap, ◌∙◌}
+use Rattle.layout.proofs.Refusals.{not_accepted}
 use Rattle.ducklake.specs.Calls.{place_of}
 use Rattle.call_laws.specs.Writes.{add_counts}
 use Rattle.call_laws.proofs.CommitCounts.{create_table_adds}
@@ -10,35 +11,26 @@ use Rattle.refusals.proofs.Laws.{few_after, few_as}
 use Rattle.table_creation.proofs.Lent.{lent_checked, lent_judged, lent_relies, leaves_all}
 use Rattle.table_creation.proofs.create.create_table.Goals as goal
 
-pub refuse_create_table-number-requires : goal.refuse_create_table-number-requires
-refuse_create_table-number-requires c =
+pub refuse_create_table-requires : goal.refuse_create_table-requires
+refuse_create_table-requires c =
     lent_checked c.requires
 
-pub shape_of-snapshots-then-number-ne-ACCEPTED : goal.shape_of-snapshots-then-number-ne-ACCEPTED
-shape_of-snapshots-then-number-ne-ACCEPTED c = refl
-
-pub shape_of-tables-then-number-ne-ACCEPTED : goal.shape_of-tables-then-number-ne-ACCEPTED
-shape_of-tables-then-number-ne-ACCEPTED c = refl
-
-pub shape_of-table_names-then-number-ne-ACCEPTED : goal.shape_of-table_names-then-number-ne-ACCEPTED
-shape_of-table_names-then-number-ne-ACCEPTED c = refl
-
-pub returns-then-number-ne-ACCEPTED : goal.returns-then-number-ne-ACCEPTED
+pub returns-in-Err : goal.returns-in-Err
 unfolding place_of
-returns-then-number-ne-ACCEPTED c l area =
-    promise_refused _ _ _ _ (lent_judged l _ c.refuse_create_table-number.ensures _) c.if-number-ne-ACCEPTED.true refl (leaves_all l) refl
+returns-in-Err c l area =
+    rw c.refused.ensures (promise_refused _ _ _ _ (lent_judged l _ c.in-Err.ensures _) (not_accepted _) refl (leaves_all l) refl)
 
 pub write_create_table-requires : goal.write_create_table-requires
 write_create_table-requires c =
-    lent_relies c.requires 0 _ _ _ _ _ (accepted_call _ _ 0 _ (lent_judged c.requires _ c.refuse_create_table-number.ensures 0) c.if-number-ne-ACCEPTED.false)
+    lent_relies c.requires 0 _ _ _ _ _ (accepted_call _ _ 0 _ (lent_judged c.requires _ c.in_default.ensures 0) refl)
 
 pub counts_after-after-requires : goal.counts_after-after-requires
 counts_after-after-requires c =
     few_as _ c.table_added-added.ensures
-    (few_after _ _ 0 _ _ (create_table_adds _ _ _ _ _ _) (accepted_call _ _ 0 _ (lent_judged c.requires _ c.refuse_create_table-number.ensures 0) c.if-number-ne-ACCEPTED.false))
+    (few_after _ _ 0 _ _ (create_table_adds _ _ _ _ _ _) (accepted_call _ _ 0 _ (lent_judged c.requires _ c.in_default.ensures 0) refl))
 
 pub returns : goal.returns
 returns c l area =
-    commit_accepted _ _ _ _ _ (lent_judged l _ c.refuse_create_table-number.ensures) c.if-number-ne-ACCEPTED.false (create_table_adds _ _ _ _ _ _)
+    rw c.accepted.ensures (commit_accepted _ _ _ _ _ (lent_judged l _ c.in_default.ensures) refl (create_table_adds _ _ _ _ _ _)
     (c.counts_after-after.ensures ∙ ap (add_counts _) c.table_added-added.ensures)
-    (λ f. c.write_create_table.ensures _ f l.snapshots l.tables l.table_names l.columns l.column_names)
+    (λ f. c.write_create_table.ensures _ f l.snapshots l.tables l.table_names l.columns l.column_names))

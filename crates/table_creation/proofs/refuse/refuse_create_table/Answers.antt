@@ -35,7 +35,7 @@ pub returns : goal.returns
 returns c w p q r s k m =
     let l = c.latest_snapshot-latest.ensures in
     let is = is_sound_lem w _ k c.if-not-checked.false in
-    commit_judged w _ k is m _ _ (create_table_adds _ _ _ _ _ _) c.first_refusal.ensures
+    commit_judged w _ k is m _ _ (create_table_adds _ _ _ _ _ _) c.first_refused.ensures
     (schema_live_as w _ p l _ q (c.schema_is_live-live.ensures w.schema_names) then λ _.
     time_as w _ p l _ c.is_in_time-in_time.ensures then λ _.
     c.is_name_argument-named.ensures then λ _.

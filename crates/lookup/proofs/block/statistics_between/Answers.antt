@@ -1,6 +1,0 @@
--- `statistics_between` meets its contract: where the word never falls, the records that have it stand between the two counts.
-use Rattle.lists.proofs.Blocks.{together}
-use Rattle.lookup.proofs.block.statistics_between.Goals as goal
-
-pub returns : goal.returns
-returns c = together _ _ _ _ _ c.requires.never_falling c.count_below-start.ensures c.count_through-end.ensures

@@ -1,8 +1,0 @@
--- `table_in_range` meets its contract: it tests the fields that the definition does.
-use Rattle.ducklake.specs.Soundness.{table_in_range}
-use Rattle.soundness_fields.proofs.ranges.table_in_range.Goals as goal
-
-pub returns : goal.returns
-unfolding table_in_range
-returns c =
-    rw (c.is_name-name.ensures, c.table_at-t.ensures)
