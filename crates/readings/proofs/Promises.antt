@@ -71,7 +71,11 @@ module _ (w : Words) (c : Counts) (r : Reading) {n : ℕ} (e : n ≡ unanswered 
   unfolding perform_reading reading_refusal unanswered
   reading_answered area z f k = tests_pass tests numbered (reading_answer (load w c) r) w c area e z f k
 
-  -- what is not refused is read in sound tables
+  -- what is not refused is read in sound tables, and has passed its own tests
   pub reading_sound : n ≡ 0 → sound w c ≡ true
   unfolding unanswered
   reading_sound z = (unless_passed not_sound (sound w c) _ (omega arith) (sym e ∙ z)).0
+
+  pub reading_passed : n ≡ 0 → first (reading_refusals (load w c) r) accepted ≡ 0
+  unfolding unanswered
+  reading_passed z = (unless_passed not_sound (sound w c) _ (omega arith) (sym e ∙ z)).1

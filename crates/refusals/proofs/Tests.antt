@@ -5,6 +5,9 @@ use mathlib.Core.Bool.{Bool, true}
 use mathlib.Core.List.{List, [], ◌∷◌, ◌++◌}
 use Rattle.layout.specs.declared.outcome.Counts.{Counts}
 use Rattle.layout.specs.declared.outcome.Terms.{Terms}
+use Rattle.layout.specs.declared.refusal.Refusal.{Refusal}
+use Rattle.layout.specs.Refusals.{refusal_number, number_of}
+use Rattle.std.specs.Prelude.{Result, Ok, Err}
 use Rattle.layout.specs.Catalog.{Catalog}
 use Rattle.layout.specs.Words.{Words, load, counts_of, within}
 use Rattle.ducklake.specs.Soundness.{sound}
@@ -16,7 +19,13 @@ use Rattle.call_laws.specs.Writes.{add_counts}
 use Rattle.call_laws.proofs.Refusals.{sound_fits, pass}
 use Rattle.refusals.specs.declared.checked.Checked.{Checked}
 use Rattle.refusals.specs.Checked.{checked_of, unanswered}
+use Rattle.refusals.specs.Numbered.{number_by}
 use Rattle.refusals.proofs.Laws.{unless_same, call_refusal, commit_room}
+
+-- a refusal's number is that of the definitions
+pub number_by_refusal : {A : Type 0} (r : Result A Refusal) → number_of r ≡ number_by refusal_number r
+number_by_refusal (Ok a) = refl
+number_by_refusal (Err refusal) = refl
 
 -- what a call computed is what must hold, test by test, each where those before it are passed
 infixr 30 ◌then◌

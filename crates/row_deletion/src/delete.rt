@@ -45,8 +45,9 @@ pub fn delete_rows(
         uuid,
         new_positions,
     ) {
+        let number = refusal.number();
         let place = refused_place(
-            refusal,
+            number,
             snapshots,
             delete_files,
             positions,

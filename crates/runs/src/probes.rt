@@ -1,5 +1,5 @@
 // Where a search in words that never fall looks. Any place between its ends would do: these are chosen so that it looks at few.
-ghost use Rattle.std.specs.Prelude.{◌<◌, ◌≤◌};
+ghost use Rattle.std.specs.Prelude.{◌≡◌, ◌<◌, ◌≤◌};
 
 use std::num::wrapping_add_usize;
 
@@ -13,7 +13,9 @@ pub struct Search {
 
 impl Search {
     // A search that begins at `near`.
-    pub fn from(near: usize) -> Search {
+    pub fn from(near: usize) -> Search
+        ensures { (result.last ≡ near) × (result.step ≡ 0) × (result.reach ≡ 1) }
+    {
         Search {
             last: near,
             step: 0,

@@ -40,10 +40,11 @@ pub fn expire_snapshots(
         (at_exit snapshots schemas schema_names tables table_names columns column_names data_files delete_files positions statistics scheduled)
         area }
 {
+    // Behind the way out it was zeroed twice: the locals of a function are zeroed where it begins.
+    let mut left = [0u64; TABLE_LIMIT];
     if let Err(refusal) = refuse_expiry(checked, snapshots, data_files, delete_files, counts, ids) {
         return Outcome::refused(refusal, counts);
     }
-    let mut left = [0u64; TABLE_LIMIT];
     let left = Remaining::unlisted(snapshots, counts.snapshots, ids, &mut left);
     let n = expire_listed(snapshots, counts.snapshots, ids);
     let d = expire_definitions(

@@ -52,7 +52,7 @@ fn none_above(counts: Counts, most: usize) -> bool
 }
 
 // The first line that doesn't hold, where the counts have room: in scratch for so many records of a table. An array's length is a parameter's name
-// and no product with it, so that each length is a parameter.
+// and no product with it, so that each length is a parameter. All arrays stand first: one behind a way out is zeroed twice.
 fn unsound_in<const RECORDS: usize, const PLACES: usize, const HINTS: usize, const KEYS: usize>(
     lent: Tables,
     counts: Counts,
@@ -62,7 +62,16 @@ fn unsound_in<const RECORDS: usize, const PLACES: usize, const HINTS: usize, con
     requires lengths { (RECORDS ≤ table_limit) × (PLACES ≡ 3 * RECORDS) × (HINTS ≡ 4 * RECORDS) × (KEYS ≡ 6 * RECORDS) }
     ensures { result ≡ first_unsound (words_lent lent.entry) counts }
 {
+    let mut keys = [0u64; KEYS];
+    let mut w = [0usize; PLACES];
+    let mut v = [0usize; PLACES];
+    let mut u = [0usize; RECORDS];
     let mut hints = [0u16; HINTS];
+    let mut of_tables = [0u16; RECORDS];
+    let mut of_columns = [0u16; RECORDS];
+    let mut of_data_files = [0u16; RECORDS];
+    let mut of_delete_files = [0u16; RECORDS];
+    let mut starts = [0u16; RECORDS];
     let snapshot_ids = Fields {
         words: lent.snapshots,
         size: SnapshotRecord::SIZE,
@@ -74,11 +83,6 @@ fn unsound_in<const RECORDS: usize, const PLACES: usize, const HINTS: usize, con
     if line != SOUND {
         return line;
     }
-    let mut of_tables = [0u16; RECORDS];
-    let mut of_columns = [0u16; RECORDS];
-    let mut of_data_files = [0u16; RECORDS];
-    let mut of_delete_files = [0u16; RECORDS];
-    let mut starts = [0u16; RECORDS];
     locate_references(
         lent,
         counts,
@@ -96,10 +100,6 @@ fn unsound_in<const RECORDS: usize, const PLACES: usize, const HINTS: usize, con
         of_delete_files: &of_delete_files,
         starts: &starts,
     };
-    let mut keys = [0u64; KEYS];
-    let mut w = [0usize; PLACES];
-    let mut v = [0usize; PLACES];
-    let mut u = [0usize; RECORDS];
     let scratch = Scratch {
         keys: &mut keys,
         w: &mut w,

@@ -92,7 +92,7 @@ key_told d keys i h =
     let b = both (ltb i d.n) file a.0 in
     (ltb-true i d.n b.0, eqb-true _ _ b.1, eqb-true _ _ a.1)
 
-places_below : {d : DeleteFiles} {keys ps : List ℕ} → DeletesKeyed d keys ps → all (λ p. ltb p d.n) ps ≡ true
+pub places_below : {d : DeleteFiles} {keys ps : List ℕ} → DeletesKeyed d keys ps → all (λ p. ltb p d.n) ps ≡ true
 places_below {d} {keys} {ps} k = all_weaken (keyed_at d keys) (λ p. ltb p d.n) ps (λ p h. lt-ltb p d.n (key_told d keys p h).0) k.keyed
 
 pub place_below : {d : DeleteFiles} {keys ps : List ℕ} {i : ℕ} → DeletesKeyed d keys ps → In i ps → i < d.n

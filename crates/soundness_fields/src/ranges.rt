@@ -3,7 +3,7 @@ ghost use Rattle.lists.specs.Lists.{all};
 ghost use Rattle.layout.specs.Fields.{snapshot_size, schema_size, table_size, column_size, data_file_size, delete_file_size, statistics_size, scheduled_size};
 ghost use Rattle.layout.specs.Names.{name_size};
 ghost use Rattle.layout.specs.Lent.{words_lent};
-ghost use Rattle.layout.specs.Words.{load, snapshot_at, schema_at, table_at, column_at, data_file_at, delete_file_at, statistics_at, scheduled_in};
+ghost use Rattle.layout.specs.Words.{Words, load, snapshot_at, schema_at, table_at, column_at, data_file_at, delete_file_at, statistics_at, scheduled_in};
 ghost use Rattle.ducklake.specs.Soundness.{snapshot_in_range, schema_in_range, table_in_range, column_in_range, data_file_in_range, delete_file_in_range, statistics_in_range, scheduled_in_range, fields_in_range};
 ghost use Rattle.soundness_fields.specs.Lent.{FieldsLent};
 
@@ -134,7 +134,19 @@ fn scheduled_in_range(scheduled: &[u64], n: usize) -> bool
 // The same of all tables.
 pub fn fields_in_range(lent: Tables, counts: Counts) -> bool
     requires { FieldsLent (words_lent lent) counts }
-    ensures { result ≡ fields_in_range (load (words_lent lent.entry) counts) }
+    ensures { (w : Words)
+        → w.snapshots ≡ lent.entry.snapshots.now
+        → w.schemas ≡ lent.entry.schemas.now
+        → w.schema_names ≡ lent.entry.schema_names.now
+        → w.tables ≡ lent.entry.tables.now
+        → w.table_names ≡ lent.entry.table_names.now
+        → w.columns ≡ lent.entry.columns.now
+        → w.column_names ≡ lent.entry.column_names.now
+        → w.data_files ≡ lent.entry.data_files.now
+        → w.delete_files ≡ lent.entry.delete_files.now
+        → w.statistics ≡ lent.entry.statistics.now
+        → w.scheduled ≡ lent.entry.scheduled.now
+        → result ≡ fields_in_range (load w counts) }
 {
     let a = (0..counts.snapshots).all(|i| snapshot_in_range(lent.snapshots, i));
     let b = (0..counts.schemas).all(|i| schema_in_range(lent.schemas, lent.schema_names, i));

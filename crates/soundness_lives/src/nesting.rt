@@ -1,10 +1,9 @@
-ghost use Rattle.std.specs.Prelude.{◌≡◌, ◌&&◌, List, ℕ, ◌+◌, ◌*◌, ◌≤◌, ◌<◌, true, eqb, ltb, length};
-ghost use Rattle.lists.specs.Lists.{all, any, chained};
-ghost use Rattle.runs.specs.Fields.{values};
+ghost use Rattle.std.specs.Prelude.{◌≡◌, ◌&&◌, List, ℕ, ◌+◌, ◌*◌, ◌≤◌, ◌<◌, eqb, length};
+ghost use Rattle.lists.specs.Lists.{all, any};
 ghost use Rattle.layout.specs.Fields.{table_size, column_size, data_file_size, delete_file_size};
 ghost use Rattle.layout.specs.Words.{Words, load, schemas_in, table_at, tables_in, column_at, columns_in, data_file_at, data_files_in, delete_file_at, delete_files_in};
 ghost use Rattle.ducklake.specs.Soundness.{contains, table_nests, column_nests, data_file_nests, delete_file_nests, lives_nest};
-ghost use Rattle.lookup.specs.Order.{SchemasById, TablesById, DataFilesById};
+ghost use Rattle.lookup.specs.Order.{ById, SchemasById, TablesById, DataFilesById};
 ghost use Rattle.lookup.specs.Versions.{with_life, versions_in};
 ghost use Rattle.soundness_lives.specs.Lent.{Nestable};
 
@@ -21,7 +20,7 @@ use runs::hints::place_at;
 
 // Whether the record of an id, most often at `near`, contains that life, where ids ascend: records with a life from the word `life` on.
 fn is_held(ids: Fields, life: usize, id: u64, l: Life, near: usize) -> bool
-    requires { (chained ltb (values ids) ≡ true) × (life + 1 < ids.size) }
+    requires { ById ids.size ids.at ids.words.now ids.n × (life + 1 < ids.size) }
     ensures { result ≡ any (λ v. eqb v.id id && contains v (with_life l))
         (versions_in ids.entry.size ids.entry.at life ids.entry.words.now ids.entry.n) }
 {

@@ -1,6 +1,5 @@
 -- `delete_rows` keeps the promise: refused it leaves all as it was and gives a right place, accepted its writes are the effect and its counts those of the effect.
-use mathlib.Core.Path.{refl, ap, ◌∙◌}
-use Rattle.layout.specs.Refusals.{refusal_number}
+use mathlib.Core.Path.{refl, sym, ap, ◌∙◌}
 use Rattle.layout.proofs.Refusals.{not_accepted}
 use Rattle.call_laws.specs.Writes.{add_counts}
 use Rattle.call_laws.proofs.CommitCounts.{delete_adds_lem}
@@ -15,13 +14,13 @@ use Rattle.row_deletion.proofs.delete.delete_rows.Goals as goal
 pub refused_place-place-requires : goal.refused_place-place-requires
 refused_place-place-requires c z =
     let l = c.requires in
-    lent_sought l _ _ (offence l.words _ 0 _ _ _ _ (c.in-Err.ensures l 0) (ap refusal_number z))
+    lent_sought l _ _ (offence l.words _ 0 _ _ _ _ (c.in-Err.ensures l 0) (sym c.number-number.ensures ∙ z))
 
 pub returns-in-Err : goal.returns-in-Err
 returns-in-Err c l area =
     let n = c.in-Err.ensures l in
     rw c.refused.ensures
-    (promise_refused _ _ _ _ (n _) (not_accepted _) (place_right l.words _ 0 _ _ _ _ (n 0) (lent_deleted l _ refl refl) c.refused_place-place.ensures) (leaves_all l) refl)
+    (promise_refused _ _ _ _ (n _) (not_accepted _) (place_right l.words _ 0 _ _ _ _ (n 0) (lent_deleted l _ refl refl) (rw c.number-number.ensures at c.refused_place-place.ensures)) (leaves_all l) refl)
 
 pub write_delete-count-requires : goal.write_delete-count-requires
 write_delete-count-requires c =

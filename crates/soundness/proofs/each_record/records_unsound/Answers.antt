@@ -41,7 +41,7 @@ tells w c n e = record { passes = λ p. absurd (n p); fails = λ _. e }
 
 -- what a test that is passed tells those after it
 fields_hold : (c : Else-not-fields) → fields_in_range (load (words_lent c.args.lent) c.args.counts) ≡ true
-fields_hold c = sym c.fields_in_range-fields.ensures ∙ c.if-not-fields.false
+fields_hold c = sym (c.fields_in_range-fields.ensures _ refl refl refl refl refl refl refl refl refl refl refl) ∙ c.if-not-fields.false
 
 rise_holds : (c : Else-not-rise) → snapshots_rise (load (words_lent c.args.lent) c.args.counts).snapshots ≡ true
 rise_holds c = sym (rise_is (words_lent c.args.lent) c.args.counts c.snapshots_rise-rise.ensures) ∙ c.if-not-rise.false
@@ -57,7 +57,7 @@ fields_in_range-fields-requires c = fields_lent _ _ c.requires
 
 pub returns-then-not-fields : goal.returns-then-not-fields
 returns-then-not-fields c =
-    tells _ _ (λ e. omega (arith, e)) (stops (all_left (words_lent c.args.lent) c.args.counts) (by_second c.requires (sym c.fields_in_range-fields.ensures ∙ c.if-not-fields.true)))
+    tells _ _ (λ e. omega (arith, e)) (stops (all_left (words_lent c.args.lent) c.args.counts) (by_second c.requires (sym (c.fields_in_range-fields.ensures _ refl refl refl refl refl refl refl refl refl refl refl) ∙ c.if-not-fields.true)))
 
 pub snapshots_rise-rise-requires : goal.snapshots_rise-rise-requires
 snapshots_rise-rise-requires c = snapshots_lent_lem _ _ c.requires

@@ -16,7 +16,7 @@ unfolding contains
 returns-in-Some c =
     let a = c.args in
     c.life_contains.ensures ∙ (ap (λ o. contains (with_life o) (with_life a.l)) c.life_at-outer.ensures
-    ∙ sym (any_found (version_at a.ids.size a.ids.at a.life a.ids.words.now) (λ v. v.id) _ _ (λ v. contains v (with_life a.l)) c.requires.0 c.find_near-found.ensures c.in-Some.is))
+    ∙ sym (any_found (version_at a.ids.size a.ids.at a.life a.ids.words.now) (λ v. v.id) _ _ (λ v. contains v (with_life a.l)) c.requires.0.ascending c.find_near-found.ensures c.in-Some.is))
 
 pub returns-in-None : goal.returns-in-None
 returns-in-None c =

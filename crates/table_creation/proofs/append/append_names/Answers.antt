@@ -1,17 +1,25 @@
--- `append_names` meets its contract: the name places of the argument are copied over those behind the first n.
-use Prim.Native.Nat.{ℕ, ◌+◌, ◌-◌}
-use mathlib.Core.Path.{◌≡◌, refl}
-use mathlib.Core.List.{List}
+-- `append_names` meets its contract: each byte of the name places is written in turn.
+use Prim.Native.Nat.{◌+◌, ◌*◌}
+use mathlib.Core.Path.{refl, sym, ◌∙◌}
+use native.Mathlib.Nat.{add-zero}
 use native.Mathlib.Omega.{arith}
-use borrow.Rule.Slice.PartMut.{put_mid}
-use lib.ListN.{length}
-use lib.Seq.{drop-drop}
-use Rattle.lists.specs.Runs.{overwrite}
+use lib.ListN.{length-set, drop_of_length-le}
+use Rattle.lists.proofs.Runs.{overwrite_none}
+use Rattle.lists.proofs.Windows.{rest_step, overwrite_next}
+use Rattle.layout.specs.Names.{name_size}
 use Rattle.table_creation.proofs.append.append_names.Goals as goal
 
-part_written : (old : List ℕ) (k : ℕ) (new : List ℕ) {v : List ℕ} → v ≡ new → put_mid k (k + length new - k) old v ≡ overwrite old k new
-unfolding overwrite
-part_written old k new e = let l : k + length new - k ≡ length new = omega arith in rw (e, l, drop-drop (length new) k old) refl
+pub loop-k-init : goal.loop-k-init
+loop-k-init c = (refl, rw add-zero refl)
+
+pub loop-k-preserved : goal.loop-k-preserved
+loop-k-preserved c =
+    let l = c.loop-k in (
+      simp length-set l.invariant.0,
+      l.invariant.1 ∙ overwrite_next l.names (name_size * c.args.n) l.k _ (omega arith) (rest_step 0 c.args.new_names.now l.k (omega arith)),
+    )
 
 pub returns : goal.returns
-returns c = part_written _ _ c.args.new_names.now c.copy_from_slice.ensures.after
+returns c =
+    let l = c.loop-k in
+    sym (l.invariant.1 ∙ rw (drop_of_length-le c.args.new_names.now {i = l.k} (omega arith)) (overwrite_none l.names (name_size * c.args.n + l.k)))

@@ -1,11 +1,11 @@
--- `unlisted` meets its contract: each turn writes the id of its snapshot, if it is not listed, behind those written before.
+-- `remaining_ids` meets its contract: each turn writes the id of its snapshot, if it is not listed, behind those written before.
 use Prim.Native.Nat.{◌≤◌}
 use mathlib.Core.Path.{◌≡◌}
 use lib.ListN.{length}
 use Rattle.lists.proofs.Loops.{counted, sent}
 use Rattle.layout.specs.Words.{snapshot_at, snapshots_in}
 use Rattle.ducklake.specs.Maintenance.{leaves, remaining}
-use Rattle.expiry.proofs.remaining.Remaining.unlisted.Given as goal
+use Rattle.expiry.proofs.remaining.remaining_ids.Given as goal
 
 abbrev pub invariant-loop-i : goal.invariant-loop-i
 invariant-loop-i l =
