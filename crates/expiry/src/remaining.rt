@@ -47,6 +47,7 @@ impl<'a> Remaining<'a> {
     pub fn shows(self, l: Life) -> bool
         ensures { result ≡ live_among self.entry.ids.now (with_life l) }
     {
-        is_live_among(self.ids, ID_SIZE, 0, self.ids.len(), l)
+        // Where none remains, as in a list of every snapshot, no record asks for a search.
+        !self.ids.is_empty() && is_live_among(self.ids, ID_SIZE, 0, self.ids.len(), l)
     }
 }
